@@ -1,0 +1,63 @@
+-- The law of a chain of tests: refused exactly if a test fails and all before it pass, passed exactly if all pass.
+-- Assumes nothing.
+use mathlib.Core.Path.{_≡_, refl, sym, ap, _∙_}
+use mathlib.Core.Bool.{Bool, true, false, cond}
+use mathlib.Core.Logic.{_⊎_, inl, inr, _↔_}
+use mathlib.Core.List.{List, [], _∷_}
+use Prim.Native.Nat.{ℕ}
+use native.Mathlib.Omega.{arith}
+use Rattle.lists.specs.Chain.{Test, Verdict, pass, stop, chain}
+
+module _ {R : Type 0} where
+  -- every test passes
+  abbrev pub AllPass : List (Test R) → Type 0
+  AllPass [] = Unit {0}
+  AllPass (t ∷ ts) = (t .passes ≡ true) × AllPass ts
+
+  -- some test fails, all before it pass, and r is its refusal
+  abbrev pub RefusedWith : List (Test R) → R → Type 0
+  RefusedWith [] r = ⊥
+  RefusedWith (t ∷ ts) r = ((t .passes ≡ false) × (r ≡ t .refusal)) ⊎ ((t .passes ≡ true) × RefusedWith ts r)
+
+  pass-not-stop : {r : R} → pass ≡ stop r → ⊥
+  pass-not-stop e = let z : _≡_ {A = ℕ} 0 1 = cc in omega arith
+
+  stop-inner : {r s : R} → stop r ≡ stop s → s ≡ r
+  stop-inner e = cc
+
+  passed-if : (ts : List (Test R)) → AllPass ts → chain ts ≡ pass
+  passed-if [] h = refl
+  passed-if (t ∷ ts) h = rw (h .0) (passed-if ts (h .1))
+
+  refused-if : (ts : List (Test R)) (r : R) → RefusedWith ts r → chain ts ≡ stop r
+  refused-if [] r h = absurd h
+  refused-if (t ∷ ts) r (inl h) = rw (h .0, h .1)
+  refused-if (t ∷ ts) r (inr h) = rw (h .0) (refused-if ts r (h .1))
+
+  -- the first test's two cases
+  passed-only : (ts : List (Test R)) → chain ts ≡ pass → AllPass ts
+  passed-only [] e = tt
+  passed-only (t ∷ ts) e = by (passed-only ts) (t .passes) refl e
+    where
+      by : (chain ts ≡ pass → AllPass ts) → (b : Bool) → t .passes ≡ b → cond b (chain ts) (stop (t .refusal)) ≡ pass → AllPass (t ∷ ts)
+      by rest true p q = (p, rest q)
+      by rest false p q = absurd (pass-not-stop (sym q))
+
+  refused-only : (ts : List (Test R)) (r : R) → chain ts ≡ stop r → RefusedWith ts r
+  refused-only [] r e = pass-not-stop e
+  refused-only (t ∷ ts) r e = by (refused-only ts r) (t .passes) refl e
+    where
+      by : (chain ts ≡ stop r → RefusedWith ts r) → (b : Bool) → t .passes ≡ b → cond b (chain ts) (stop (t .refusal)) ≡ stop r → RefusedWith (t ∷ ts) r
+      by rest true p q = inr (p, rest q)
+      by rest false p q = inl (p, stop-inner q)
+
+  -- both halves, of a chain
+  pub record ExactlyIf (ts : List (Test R)) (v : Verdict R) : Type 0 where
+    pub passes : (v ≡ pass) ↔ AllPass ts
+    pub refuses : (r : R) → (v ≡ stop r) ↔ RefusedWith ts r
+
+  pub chain-exactly-if : (ts : List (Test R)) → ExactlyIf ts (chain ts)
+  chain-exactly-if ts = record {
+    passes = (passed-only ts, passed-if ts);
+    refuses = λ r. (refused-only ts r, refused-if ts r);
+  }

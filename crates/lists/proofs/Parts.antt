@@ -1,0 +1,89 @@
+-- Lists that grow from the front, by stores and by lent parts that come home, and parts pasted into a list.
+--     Growing: growing-none, growing-more, growing-part, growing-done       the first n elements are v
+--     Pasting: pasting-none, pasting-more, pasting-done                     stores from place a on, the others as they were
+--     parts-none, parts-more, part-home                                     parts one behind the other; a lent part, as a paste
+-- Assumes nothing.
+use mathlib.Core.Path.{_≡_, refl, sym, ap, _∙_}
+use mathlib.Core.List.{List, [], _∷_, _++_, append-assoc}
+use Prim.Native.Nat.{ℕ, zero, suc, _+_, _-_, _<_, _≤_, zero-le}
+use native.Mathlib.Numerals.{add-one}
+use native.Mathlib.Omega.{arith}
+use borrow.Rule.Slice.PartMut.{putMid, postOf, post-is}
+use lib.ListN.{length, set, take, drop, getD, length-append, length-set}
+use lib.Seq.{take-suc-set, take-all, take-at, length-take-le, paste, paste-zero, paste-suc}
+use Rattle.lists.specs.Parts.{parts, pasted}
+
+module _ {A : Type 0} where
+  -- ---- growing
+
+  -- the first n elements of d are v
+  pub record Growing (d v : List A) (n : ℕ) : Type 0 where
+    pub room : n ≤ length d
+    pub is : take n d ≡ v
+
+  pub growing-none : (d : List A) → Growing d [] 0
+  growing-none d = record { room = zero-le; is = refl }
+
+  -- a store behind what has grown
+  pub growing-more : {d v : List A} {n : ℕ} (x : A) → Growing d v n → n < length d → Growing (set d n x) (v ++ (x ∷ [])) (n + 1)
+  growing-more {d} {v} {n} x g h = record {
+    room = simp length-set (omega arith);
+    is = rw (add-one, take-suc-set d n x h) (ap (λ (l : List A). l ++ (x ∷ [])) (g .is));
+  }
+
+  -- the part from a to e was lent behind what has grown, and has come home as w
+  pub growing-part : {d v : List A} {a : ℕ} (w : List A) (e : ℕ) → Growing d v a → a ≤ e → e ≤ length d → length w ≡ e - a → Growing (putMid a (e - a) d w) (v ++ w) e
+  growing-part {d} {v} {a} w e g h k l =
+      let m : length (take a d ++ w) ≡ e = omega (arith, length-append (take a d) w, length-take-le a d (g .room)) in
+      let s : (take a d ++ w) ++ postOf a (e - a) d ≡ putMid a (e - a) d w = append-assoc (take a d) w (postOf a (e - a) d) in
+      record {
+        room = rw (sym s) (omega (arith, length-append (take a d ++ w) (postOf a (e - a) d)));
+        is = rw (sym s) (take-at (take a d ++ w) (postOf a (e - a) d) e m ∙ ap (λ (l : List A). l ++ w) (g .is));
+      }
+
+  pub growing-done : {d v : List A} {n : ℕ} → Growing d v n → length d ≤ n → d ≡ v
+  growing-done {d} {v} {n} g h = sym (take-all n d h) ∙ g .is
+
+  -- ---- parts one behind the other
+
+  pub parts-none : (f : ℕ → List A) → parts 0 f ≡ []
+  unfolding parts
+  parts-none f = refl
+
+  pub parts-more : (n : ℕ) (f : ℕ → List A) → parts (n + 1) f ≡ parts n f ++ f n
+  unfolding parts
+  parts-more n f = rw add-one
+
+  -- ---- pasting
+
+  -- a lent part that comes home as w is w pasted in its place
+  pub part-home : (d w : List A) (a e : ℕ) → a ≤ e → length w ≡ e - a → putMid a (e - a) d w ≡ pasted a w d
+  part-home d w a e h l =
+      let z : e ≡ a + length w = omega arith in
+      sym (append-assoc (take a d) w (postOf a (e - a) d))
+      ∙ ap (λ (t : List A). (take a d ++ w) ++ t) (post-is a e d h)
+      ∙ ap (λ (n : ℕ). (take a d ++ w) ++ drop n d) z
+
+  -- d is d₀ with the first k elements of v stored from place a on
+  pub record Pasting (a : ℕ) (v d₀ d : List A) (k : ℕ) : Type 0 where
+    pub below : k ≤ length v
+    pub room : a + length v ≤ length d₀
+    pub long : length d ≡ length d₀
+    pub is : d ≡ paste d₀ a v k
+
+  pub pasting-none : (a : ℕ) (v d₀ : List A) → a + length v ≤ length d₀ → Pasting a v d₀ d₀ 0
+  pasting-none a v d₀ r = record { below = zero-le; room = r; long = refl; is = paste-zero d₀ a v }
+
+  pub pasting-more : {a : ℕ} {v d₀ d : List A} {k : ℕ} (z : A) {x : A} → Pasting a v d₀ d k → k < length v → x ≡ getD v k z
+      → Pasting a v d₀ (set d (a + k) x) (k + 1)
+  pasting-more {a} {v} {d₀} {d} {k} z {x} p h e = record {
+    below = omega arith;
+    room = p .room;
+    long = length-set d (a + k) x ∙ p .long;
+    is = rw (p .is, e, add-one) (paste-suc d₀ a v k z (omega (arith, p .room)) h);
+  }
+
+  pub pasting-done : {a : ℕ} {v d₀ d : List A} {k : ℕ} → Pasting a v d₀ d k → length v ≤ k → d ≡ pasted a v d₀
+  pasting-done {a} {v} {d₀} {d} {k} p h =
+      let q : k ≡ length v = omega (arith, p .below) in
+      p .is ∙ rw (q, take-all (length v) v (omega arith))

@@ -1,0 +1,1 @@
+// No code: what it means that a contract allows one result only (specs/Unique.antt).
