@@ -1,0 +1,30 @@
+-- What the test of a quantizer's number comes to, and when a quantizer is refused. Assumes nothing.
+use mathlib.Core.Path.{_≡_, refl, sym, ap, _∙_}
+use mathlib.Core.List.{[], _∷_}
+use Prim.Native.Nat.{ℕ, _≤_, _<_, zero-le}
+use borrow.Author.Tests.{le-leb, lt-leb}
+use Rattle.lists.specs.Chain.{Verdict, pass, stop, chain, written}
+use Rattle.lists.proofs.Chain.{ExactlyIf}
+use Rattle.refusal.proofs.Same.{says, says-same, says-exactly-if}
+use Rattle.refusal.specs.declared.Refusal.{Refusal}
+use Rattle.refusal.specs.declared.Refusal.the-variants as refusal
+use Rattle.quantizer.specs.Range.{lowest, highest, tests, said, qpOf, Builds}
+use Rattle.quantizer.specs.declared.Built.{Built}
+use Rattle.quantizer.specs.declared.Built.the-variants.{Legal, Refused}
+
+module _ (qp : ℕ) where
+  pub legal : qp ≤ highest → chain (tests qp) ≡ pass
+  legal h = simp (le-leb lowest qp zero-le, le-leb qp highest h)
+
+  pub high : highest < qp → chain (tests qp) ≡ stop (refusal.Quantizer 0)
+  high h = simp (le-leb lowest qp zero-le, lt-leb qp highest h)
+
+pub quantizer-new-refuses-exactly-if : (qp : ℕ) (b : Built) → Builds qp b → ExactlyIf (tests qp) (said b)
+quantizer-new-refuses-exactly-if qp b p = says-exactly-if (tests qp) (p .says)
+
+-- an answer is known by what it says and the number that comes back
+pub same-built : (x y : Built) → said x ≡ said y → qpOf x ≡ qpOf y → x ≡ y
+same-built (Legal q) (Legal s) e f = λ i. Legal (record { qp = f i })
+same-built (Legal q) (Refused s) e f = cc
+same-built (Refused r) (Legal s) e f = cc
+same-built (Refused r) (Refused s) e f = let g : r ≡ s = cc in ap Refused g

@@ -1,0 +1,80 @@
+-- The rules of the tables, each one test that the checker computes over the whole table.
+--     zigzag-permutes     the zigzag visits each of the sixteen places once: step and place undo each other
+--     classes             the class table goes by the parity of row and column
+--     tables-agree        MF times V times 16, 25 or 20 is 2^21, give or take 277
+-- Assumes nothing.
+use mathlib.Core.Path.{_≡_, refl, sym, ap, _∙_}
+use mathlib.Core.Bool.{Bool, _&&_}
+use mathlib.Core.List.{List, [], _∷_}
+use Prim.Native.Nat.{ℕ, _+_, _-_, _*_, _^_, _<_, _≤_}
+use native.Mathlib.Omega.{arith}
+use lib.Dec.{eqb, ltb, leb, eqb→eq, ltb→lt, leb→le}
+use lib.ListN.{getD}
+use Rattle.lists.proofs.Every.{every-at}
+use Rattle.quantizer.specs.Tables.{mfTable, vTable, mfOf, vOf, columnOf, zigzagOf, stepOf, classAtPlace}
+use Rattle.quantizer.specs.declared.Class.{Class}
+use Rattle.quantizer.specs.declared.Class.the-variants.{A, B, C}
+
+-- ---- zigzag
+
+pub record Permutes (k : ℕ) : Type 0 where
+  pub place : zigzagOf k < 16
+  pub step : stepOf k < 16
+  pub step-of-place : stepOf (zigzagOf k) ≡ k
+  pub place-of-step : zigzagOf (stepOf k) ≡ k
+
+pub zigzag-permutes : (k : ℕ) → k < 16 → Permutes k
+zigzag-permutes k h = record {
+  place = ltb→lt _ _ (every-at 16 (λ i. ltb (zigzagOf i) 16) tt k h);
+  step = ltb→lt _ _ (every-at 16 (λ i. ltb (stepOf i) 16) tt k h);
+  step-of-place = eqb→eq _ _ (every-at 16 (λ i. eqb (stepOf (zigzagOf i)) i) tt k h);
+  place-of-step = eqb→eq _ _ (every-at 16 (λ i. eqb (zigzagOf (stepOf i)) i) tt k h);
+}
+
+-- ---- classes
+
+pub column-lt : (c : Class) → columnOf c < 3
+column-lt A = omega arith
+column-lt B = omega arith
+column-lt C = omega arith
+
+-- the class that stands in a column
+inColumn : ℕ → Class
+inColumn k = getD (A ∷ B ∷ C ∷ []) k A
+
+column-again : (c : Class) → inColumn (columnOf c) ≡ c
+unfolding inColumn
+column-again A = refl
+column-again B = refl
+column-again C = refl
+
+same-class : (c d : Class) → columnOf c ≡ columnOf d → c ≡ d
+same-class c d e = sym (column-again c) ∙ ap inColumn e ∙ column-again d
+
+-- the table in the code
+abbrev pub classTable : List Class
+classTable = A ∷ C ∷ A ∷ C ∷ C ∷ B ∷ C ∷ B ∷ A ∷ C ∷ A ∷ C ∷ C ∷ B ∷ C ∷ B ∷ []
+
+pub classes : (place : ℕ) → place < 16 → getD classTable place A ≡ classAtPlace place
+classes place h =
+    same-class _ _ (eqb→eq _ _ (every-at 16 (λ i. eqb (columnOf (getD classTable i A)) (columnOf (classAtPlace i))) tt place h))
+
+-- ---- MF against V
+
+-- what the forward and the inverse transform leave to MF and V at the places of a class
+abbrev pub gainOf : Class → ℕ
+gainOf A = 16
+gainOf B = 25
+gainOf C = 20
+
+abbrev pub distance : ℕ → ℕ → ℕ
+distance a b = (a - b) + (b - a)
+
+close : ℕ → ℕ → Bool
+close r c = leb (distance (getD mfTable (3 * r + c) 0 * getD vTable (3 * r + c) 0 * getD (16 ∷ 25 ∷ 20 ∷ []) c 0) (2 ^ 21)) 277
+
+pub tables-agree : (r : ℕ) → r < 6 → (c : Class) → distance (mfOf r c * vOf r c * gainOf c) (2 ^ 21) ≤ 277
+unfolding close
+tables-agree r h A = leb→le _ _ (every-at 6 (λ i. close i 0) tt r h)
+tables-agree r h B = leb→le _ _ (every-at 6 (λ i. close i 1) tt r h)
+tables-agree r h C = leb→le _ _ (every-at 6 (λ i. close i 2) tt r h)
