@@ -8,7 +8,7 @@
 --     ring, rings                                                 the solver, for one identity and for a list of them
 -- Assumes nothing.
 use mathlib.Core.Path.{_≡_, refl, sym, _∙_, ap, subst}
-use mathlib.Core.List.{List, [], _∷_}
+use mathlib.Core.List.{List, [], _∷_, map}
 use Prim.Native.Nat.{ℕ, zero, suc, compare, Ordering, Ordering·lt, Ordering·eq, Ordering·gt}
 use lib.IntN.{ℤ, pos, negsuc, negℤ, _+ℤ_, _*ℤ_, +ℤ-assoc, +ℤ-comm, +ℤ-idl, +ℤ-idr, *ℤ-comm, zero-*ℤ, *ℤ-zero}
 use lib.ListN.{getD}
@@ -218,21 +218,14 @@ ring ρ a b e = sym (normal-value ρ a) ∙ ap (sumOf ρ) e ∙ normal-value ρ 
 -- ---- several identities at once
 
 abbrev pub values : List ℤ → List Expression → List ℤ
-values ρ [] = []
-values ρ (e ∷ es) = value ρ e ∷ values ρ es
+values ρ es = map (value ρ) es
 
 abbrev pub normals : List Expression → List Polynomial
-normals [] = []
-normals (e ∷ es) = normal e ∷ normals es
+normals es = map normal es
 
-sumsOf : List ℤ → List Polynomial → List ℤ
-sumsOf ρ [] = []
-sumsOf ρ (p ∷ ps) = sumOf ρ p ∷ sumsOf ρ ps
-
-normals-value : (ρ : List ℤ) (es : List Expression) → sumsOf ρ (normals es) ≡ values ρ es
-unfolding sumsOf
+normals-value : (ρ : List ℤ) (es : List Expression) → map (sumOf ρ) (normals es) ≡ values ρ es
 normals-value ρ [] = refl
 normals-value ρ (e ∷ es) = λ i. normal-value ρ e i ∷ normals-value ρ es i
 
 pub rings : (ρ : List ℤ) (ls rs : List Expression) → normals ls ≡ normals rs → values ρ ls ≡ values ρ rs
-rings ρ ls rs e = sym (normals-value ρ ls) ∙ ap (sumsOf ρ) e ∙ normals-value ρ rs
+rings ρ ls rs e = sym (normals-value ρ ls) ∙ ap (map (sumOf ρ)) e ∙ normals-value ρ rs
