@@ -1,5 +1,5 @@
 -- Uniqueness of the public functions' results, over their actual contracts.
---     absolute-unique, clip-unique, first-outside-unique
+--     absolute-unique, clip-unique, inside-unique, first-outside-unique
 -- Assumes nothing.
 use mathlib.Core.Path.{refl, sym, _∙_}
 use Rattle.unique.specs.Unique.{Unique}
@@ -7,6 +7,8 @@ use Rattle.whole.proofs.inner.absolute.Kinds as absolute-kinds
 use Rattle.whole.proofs.inner.absolute.Reads as absolute-reads
 use Rattle.whole.proofs.inner.clip.Kinds as clip-kinds
 use Rattle.whole.proofs.inner.clip.Reads as clip-reads
+use Rattle.whole.proofs.inner.inside.Kinds as inside-kinds
+use Rattle.whole.proofs.inner.inside.Reads as inside-reads
 use Rattle.whole.proofs.inner.first_outside.Kinds as first-outside-kinds
 use Rattle.whole.proofs.inner.first_outside.Reads as first-outside-reads
 
@@ -15,6 +17,9 @@ absolute-unique κs a x y e f p q = (p ∙ sym q, refl)
 
 pub clip-unique : Unique 0 clip-kinds.ps clip-kinds.r clip-reads.Learnt (Unit {0}) (λ κs e. tt)
 clip-unique κs a x y e f p q = (p ∙ sym q, refl)
+
+pub inside-unique : Unique 0 inside-kinds.ps inside-kinds.r inside-reads.Learnt (Unit {0}) (λ κs e. tt)
+inside-unique κs a x y e f p q = (p ∙ sym q, refl)
 
 pub first-outside-unique : Unique 1 first-outside-kinds.ps first-outside-kinds.r first-outside-reads.Learnt (Unit {0}) (λ κs e. tt)
 first-outside-unique κs a x y e f p q = (p ∙ sym q, refl)

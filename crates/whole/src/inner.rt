@@ -28,7 +28,8 @@ pub fn clip(z: i32, high: u8) -> u8
     z as u8
 }
 
-fn inside(z: i32, low: i32, high: i32) -> bool
+// Whether z lies in low..=high.
+pub fn inside(z: i32, low: i32, high: i32) -> bool
     ensures { λ r. ⌜ r ≡ inside low high z ⌝ }
 {
     if low <= z { z <= high } else { false }
