@@ -1,0 +1,4 @@
+pub mod Order
+pub mod Quantize
+pub mod Rebuild
+pub mod Rescale
