@@ -1,0 +1,4 @@
+pub mod Bounds
+pub mod Clip
+pub mod Range
+pub mod Sum
