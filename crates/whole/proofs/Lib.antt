@@ -1,5 +1,9 @@
 pub mod Bound
 pub mod Laws
 pub mod Lists
+pub mod Order
+pub mod Range
 pub mod Ring
 pub mod Steps
+pub mod Sums
+pub mod Unique

@@ -1,5 +1,5 @@
 -- Lists of whole numbers: bounds on each, numbers that are read back from their bits, and several results of straight-line code at once.
---     each-less, each-gather                              bounds of a list
+--     each-less, each-from, each-gather                   bounds of a list
 --     reads: plain, plain-fits, plain-gather, each-reads  numbers read back from their bits are the numbers
 --     gather                                              the numbers at a list of places
 --     raws-of, ideals, expressions; oks, mosts            a list of `Code`, as `raw`, `ideal`, `expression`, `ok` and `most` of each
@@ -8,15 +8,16 @@
 use mathlib.Core.Path.{_≡_, refl, sym, subst}
 use mathlib.Core.List.{List, [], _∷_, map}
 use mathlib.Core.Bool.{Bool, true, _&&_}
-use Prim.Native.Nat.{ℕ, suc, _^_}
+use Prim.Native.Nat.{ℕ, suc, _^_, _<_}
+use native.Mathlib.Omega.{arith}
 use lib.IntN.{ℤ, pos}
-use lib.ListN.{getD}
+use lib.ListN.{length, getD}
 use lib.Dec.{T, ltb, leb}
 use mir.Syntax.{Width}
 use mir.Val.{toZ, ofZ, SFits, hbits}
 use mir.ValLaws.{toZ-ofZ}
 use Rattle.lists.proofs.Every.{both-left, both-right}
-use Rattle.whole.specs.Bounds.{Each}
+use Rattle.whole.specs.Bounds.{Within, Each}
 use Rattle.whole.proofs.Ring.{Expression}
 use Rattle.whole.proofs.Bound.{here, wrap, within-less}
 use Rattle.whole.proofs.Steps.{Code, raw, ideal, expression, ok, most, each-at, exact, sized}
@@ -39,6 +40,11 @@ plain-fits w (z ∷ l) h = λ t. toZ-ofZ w z (h 0) t ∷ plain-fits w l (λ i. h
 pub each-less : (A B : ℕ) (l : List ℤ) → Each A l → T (leb A B) → Each B l
 each-less A B [] h t = tt
 each-less A B (z ∷ l) h t = (within-less (h .0) t, each-less A B l (h .1) t)
+
+-- from the bound at each place
+pub each-from : (B : ℕ) (l : List ℤ) → ((i : ℕ) → i < length l → Within B (getD l i (pos 0))) → Each B l
+each-from B [] h = tt
+each-from B (z ∷ l) h = (h 0 (omega arith), each-from B l (λ i m. h (suc i) (omega arith)))
 
 -- what a caller hands over for arguments that it reads from locals
 pub each-reads : (w : Width) (A B : ℕ) (l : List ℤ) → Each A l → T (ltb A (2 ^ hbits w)) → T (leb A B) → Each B (reads w l)
