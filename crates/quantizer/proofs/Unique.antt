@@ -3,6 +3,8 @@ use mathlib.Core.Path.{_≡_, refl, sym, _∙_}
 use Rattle.unique.specs.Unique.{Unique}
 use Rattle.refusal.proofs.Same.{says-same}
 use Rattle.quantizer.proofs.Range.{same-built}
+use Rattle.quantizer.proofs.chroma_quantizer.Kinds as chroma-quantizer
+use Rattle.quantizer.proofs.chroma_quantizer.Reads as chroma-quantizer-reads
 use Rattle.quantizer.proofs.Quantizer.new.Kinds as quantizer-new
 use Rattle.quantizer.proofs.Quantizer.new.Reads as quantizer-new-reads
 use Rattle.quantizer.proofs.Quantizer.number.Kinds as quantizer-number
@@ -49,7 +51,10 @@ pub class-at-unique : Unique 0 class-at.ps class-at.r class-at-reads.Learnt (Uni
 class-at-unique κs a x y e f p q = (p ∙ sym q, refl)
 
 pub zigzag-unique : Unique 0 zigzag.ps zigzag.r zigzag-reads.Learnt (Unit {0}) (λ κs e. tt)
-zigzag-unique κs a x y e f p q = (p ∙ sym q, refl)
+zigzag-unique κs a x y e f p q = (p .0 ∙ sym (q .0), refl)
 
 pub step-unique : Unique 0 step.ps step.r step-reads.Learnt (Unit {0}) (λ κs e. tt)
-step-unique κs a x y e f p q = (p ∙ sym q, refl)
+step-unique κs a x y e f p q = (p .0 ∙ sym (q .0), refl)
+
+pub chroma-quantizer-unique : Unique 0 chroma-quantizer.ps chroma-quantizer.r chroma-quantizer-reads.Learnt (Unit {0}) (λ κs e. tt)
+chroma-quantizer-unique κs a x y e f p q = (same-built x y (says-same (p .says) ∙ sym (says-same (q .says))) (p .value ∙ sym (q .value)), refl)

@@ -1,2 +1,3 @@
+pub mod Chroma
 pub mod Range
 pub mod Tables

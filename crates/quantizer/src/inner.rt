@@ -49,7 +49,7 @@ pub fn class_at(place: usize) -> Class
 // The raster place that the zigzag visits at a step.
 pub fn zigzag(step: usize) -> usize
     requires { ⌜ step < 16 ⌝ }
-    ensures { λ r. ⌜ r ≡ zigzagOf step ⌝ }
+    ensures { λ r. ⌜ (r ≡ zigzagOf step) × (r < 16) ⌝ }
 {
     ZIGZAG[step]
 }
@@ -57,7 +57,7 @@ pub fn zigzag(step: usize) -> usize
 // The step at which the zigzag visits a raster place.
 pub fn step(place: usize) -> usize
     requires { ⌜ place < 16 ⌝ }
-    ensures { λ r. ⌜ r ≡ stepOf place ⌝ }
+    ensures { λ r. ⌜ (r ≡ stepOf place) × (r < 16) ⌝ }
 {
     STEP[place]
 }

@@ -1,7 +1,8 @@
 // The quantizer: its numbers, its split into period and remainder, its tables, and the chroma quantizer
 // (01, "Transform, quantizer, rescaling").
 ghost use mathlib.Core.Path.{_≡_};
-ghost use Prim.Native.Nat.{_+_, _*_, _<_};
+ghost use Prim.Native.Nat.{_+_, _*_, _<_, _≤_};
+ghost use Rattle.quantizer.specs.Chroma.{ChromaBuilds, foldedOf};
 ghost use Rattle.quantizer.specs.Range.{Builds, periodOf, remainderOf};
 ghost use Rattle.quantizer.specs.Tables.{mfOf, vOf, columnOf};
 use refusal::Refusal;
@@ -127,3 +128,38 @@ const V: [u8; 18] = [
     29,
     23,
 ];
+
+// The chroma quantizer of a luma quantizer and an offset, or the refusal.
+pub fn chroma_quantizer(qp: u8, offset: i32) -> Built
+    ensures { λ r. ⌜ ChromaBuilds qp offset r ⌝ }
+{
+    if Quantizer::MAX < qp {
+        return Built::Refused(Refusal::Quantizer(0));
+    }
+    if !whole::inner::inside(offset, -12, 12) {
+        return Built::Refused(Refusal::Quantizer(0));
+    }
+    let moved = whole::inner::clip(qp as i32 + offset, Quantizer::MAX);
+    Built::Legal(Quantizer { qp: folded(moved) })
+}
+
+// The standard's table, from 30 on.
+fn folded(q: u8) -> u8
+    requires { ⌜ q ≤ 51 ⌝ }
+    ensures { λ r. ⌜ r ≡ foldedOf q ⌝ }
+{
+    match q {
+        0..=29 => q,
+        30 => 29,
+        31 => 30,
+        32 => 31,
+        33 | 34 => 32,
+        35 => 33,
+        36 | 37 => 34,
+        38 | 39 => 35,
+        40 | 41 => 36,
+        42..=44 => 37,
+        45..=47 => 38,
+        _ => 39,
+    }
+}

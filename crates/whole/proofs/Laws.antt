@@ -9,8 +9,8 @@ use mathlib.Core.Bool.{Bool, true, false, not, cond}
 use Prim.Native.Nat.{ℕ, zero, suc, _+_, _*_, _-_, _<_, _≤_}
 use native.Mathlib.Omega.{arith}
 use lib.IntN.{ℤ, pos, negsuc, negℤ, subℕ, _+ℤ_, _-ℤ_, _*ℤ_}
-use lib.Signed.{_≤ℤ_, _<ℤ_, leZ-yes, ltZ-yes}
-use lib.Dec.{T, ltb, ltb→lt, nltb→le, leb→le, le→leb, lt→ltb}
+use lib.Signed.{_≤ℤ_, _<ℤ_, ltZ, leZ-yes, ltZ-yes, ltZ-no, clashℤ}
+use lib.Dec.{T, ltb, ltb→lt, nltb→le, leb→le, le→leb}
 
 -- z is `up z` minus `down z`, and one of them is 0
 abbrev pub up : ℤ → ℕ
@@ -116,17 +116,16 @@ nat-le (pos a) (negsuc b) h = absurd (omega arith)
 nat-le (negsuc a) (pos b) h = leZ-yes tt
 nat-le (negsuc a) (negsuc b) h = leZ-yes (le→leb b a (omega arith))
 
+-- x < y is that y ≤ x fails
 pub lt-nat : {x y : ℤ} → x <ℤ y → up x + down y < up y + down x
-lt-nat {x = pos a} {y = pos b} h = omega (arith, ltb→lt a b (h .lt))
-lt-nat {x = pos a} {y = negsuc b} h = absurd (h .lt)
-lt-nat {x = negsuc a} {y = pos b} h = omega arith
-lt-nat {x = negsuc a} {y = negsuc b} h = omega (arith, ltb→lt b a (h .lt))
+lt-nat {x} {y} h = let no : (up y + down x ≤ up x + down y → ⊥) = λ k. clashℤ h (nat-le y x k) in omega arith
+
+not-fails : (b : Bool) → (T (not b) → ⊥) → T b
+not-fails true h = tt
+not-fails false h = h tt
 
 pub nat-lt : (x y : ℤ) → up x + down y < up y + down x → x <ℤ y
-nat-lt (pos a) (pos b) h = ltZ-yes (lt→ltb a b (omega arith))
-nat-lt (pos a) (negsuc b) h = absurd (omega arith)
-nat-lt (negsuc a) (pos b) h = ltZ-yes tt
-nat-lt (negsuc a) (negsuc b) h = ltZ-yes (lt→ltb b a (omega arith))
+nat-lt x y h = ltZ-yes (not-fails (ltZ x y) (λ t. let k = le-nat (ltZ-no {a = x} {b = y} t) in omega arith))
 
 -- an order between sums: each side as a difference
 pub le-by : {x y : ℤ} {p n q m : ℕ} → Diff x p n → Diff y q m → p + m ≤ q + n → x ≤ℤ y

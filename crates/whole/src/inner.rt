@@ -1,6 +1,7 @@
 // Functions that the crates above call. Each takes every value of its types.
 ghost use mathlib.Core.Path.{_≡_};
 ghost use lib.IntN.{natAbs};
+ghost use lib.ListN.{length};
 ghost use Rattle.whole.specs.Clip.{clip};
 ghost use Rattle.whole.specs.Range.{inside, firstOutside};
 
@@ -28,7 +29,8 @@ pub fn clip(z: i32, high: u8) -> u8
     z as u8
 }
 
-fn inside(z: i32, low: i32, high: i32) -> bool
+// Whether z lies in low..=high.
+pub fn inside(z: i32, low: i32, high: i32) -> bool
     ensures { λ r. ⌜ r ≡ inside low high z ⌝ }
 {
     if low <= z { z <= high } else { false }
@@ -46,4 +48,16 @@ pub fn first_outside(x: &[i32], low: i32, high: i32) -> usize
         i += 1;
     }
     i
+}
+
+// Copies the numbers of one slice over those of another.
+pub fn copy(from: &[i32], to: &mut [i32])
+    requires { ⌜ length (now from) ≡ length (now to) ⌝ }
+    ensures { λ r. ⌜ now (to .exit) ≡ now (from .entry) ⌝ }
+{
+    let mut i = 0;
+    while i < from.len() {
+        to[i] = from[i];
+        i += 1;
+    }
 }

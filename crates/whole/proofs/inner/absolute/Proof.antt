@@ -21,8 +21,8 @@ use Rattle.whole.proofs.inner.absolute.Tie as tie
 abbrev minus : Code
 minus = sub (num (pos 0)) (inp 0)
 
-abbrev ins : tie.Start → List ℤ
-ins s = toZ w32 (ofZ w32 (s .args .z)) ∷ []
+abbrev inputs : tie.Start → List ℤ
+inputs s = toZ w32 (ofZ w32 (s .args .z)) ∷ []
 
 plain : (s : tie.Start) → toZ w32 (ofZ w32 (s .args .z)) ≡ s .args .z
 plain s = toZ-ofZ w32 (s .args .z) (s .fits .z)
@@ -30,11 +30,11 @@ plain s = toZ-ofZ w32 (s .args .z) (s .fits .z)
 small : (s : tie.Start) → natAbs (s .args .z) ≤ 2147483648
 small s = natAbs-le (s .args .z) (s .fits .z .sfits)
 
-each : (s : tie.Start) → Each 2147483648 (ins s)
+each : (s : tie.Start) → Each 2147483648 (inputs s)
 each s = (record { size = rw (plain s) (small s) }, tt)
 
-back : (s : tie.Start) → read w64 (ins s) minus ≡ pos 0 -ℤ s .args .z
-back s = exact w64 2147483648 (ins s) (each s) minus tt ∙ ap (λ (z : ℤ). pos 0 -ℤ z) (plain s)
+back : (s : tie.Start) → read w64 (inputs s) minus ≡ pos 0 -ℤ s .args .z
+back s = exact w64 2147483648 (inputs s) (each s) minus tt ∙ ap (λ (z : ℤ). pos 0 -ℤ z) (plain s)
 
 low : (c : tie.Then1) → T (nonNeg (pos 0 -ℤ c .before .args .z)) × (natAbs (pos 0 -ℤ c .before .args .z) ≡ natAbs (c .before .args .z))
 low c = size-low (c .before .args .z) (plain-lt w32 (c .before .args .z) (c .before .fits .z) (pos 0) (c .if1 .taken))
@@ -43,7 +43,7 @@ cast-result : tie.Need-cast-result
 cast-result c = rw (plain (c .before)) (record { sfits = omega (arith, c .before .fits .z) })
 
 sub-result : tie.Need-sub-result
-sub-result c = safe w64 2147483648 (ins (c .before)) (each (c .before)) minus tt
+sub-result c = safe w64 2147483648 (inputs (c .before)) (each (c .before)) minus tt
 
 cast-result-2 : tie.Need-cast-result-2
 cast-result-2 c =

@@ -1,0 +1,7 @@
+// Runs vectors through the entry points and prints a line a group. `.ci/run` holds what it prints to the file `stdout`.
+mod print;
+mod quantizers;
+
+fn main() {
+    quantizers::run();
+}
