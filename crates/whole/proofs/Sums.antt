@@ -1,5 +1,6 @@
 -- Laws of sums over a size, and of tables of two indexes.
 --     sum-ext, sum-scale, sum-add, sum-zero, sum-swap     equal terms; a factor; two sums; nothing; the order of two sums exchanged
+--     sum-append, sum-rows                                one sum behind another; a long sum as a sum of rows
 --     picked                                              a row of the unit matrix picks one term
 --     eqZ, eqZ→eq, same-below                             two tables agree below a size, by one computed test: its proof is `tt`
 -- Assumes nothing.
@@ -7,7 +8,7 @@ use mathlib.Core.Path.{_≡_, refl, sym, ap, _∙_}
 use mathlib.Core.List.{[], _∷_}
 use mathlib.Core.Logic.{⊎-elim}
 use mathlib.Core.Bool.{Bool, false, cond}
-use Prim.Native.Nat.{ℕ, zero, suc, _<_, _≤_}
+use Prim.Native.Nat.{ℕ, zero, suc, _+_, _*_, _<_, _≤_}
 use native.Mathlib.Omega.{arith}
 use native.Mathlib.Nat.{le-refl, eq-or-lt-of-le, le-of-suc-le-suc, not-suc-le-zero}
 use borrow.Author.Tests.{eq-eqb, ne-eqb}
@@ -42,6 +43,27 @@ pub sum-swap : (n m : ℕ) (f : ℕ → ℕ → ℤ) → sum n (λ k. sum m (λ 
 sum-swap zero m f = sym (sum-zero m)
 sum-swap (suc n) m f =
     ap (λ (z : ℤ). z +ℤ sum m (λ l. f n l)) (sum-swap n m f) ∙ sum-add m (λ l. sum n (λ k. f k l)) (λ l. f n l)
+
+pub sum-append : (n m : ℕ) (f : ℕ → ℤ) → sum (n + m) f ≡ sum n f +ℤ sum m (λ k. f (n + k))
+sum-append n zero f =
+    let e : n + 0 ≡ n = omega arith in
+    ap (λ (k : ℕ). sum k f) e ∙ ring (sum n f ∷ []) (var 0) (var 0 ⊕ con (pos 0)) refl
+sum-append n (suc m) f =
+    let e : n + suc m ≡ suc (n + m) = omega arith in
+    ap (λ (k : ℕ). sum k f) e
+    ∙ ap (λ (z : ℤ). z +ℤ f (n + m)) (sum-append n m f)
+    ∙ ring (sum n f ∷ sum m (λ k. f (n + k)) ∷ f (n + m) ∷ []) ((var 0 ⊕ var 1) ⊕ var 2) (var 0 ⊕ (var 1 ⊕ var 2)) refl
+
+-- n rows of m terms
+pub sum-rows : (n m : ℕ) (f : ℕ → ℤ) → sum (m * n) f ≡ sum n (λ row. sum m (λ column. f (m * row + column)))
+sum-rows zero m f =
+    let e : m * 0 ≡ 0 = omega arith in
+    ap (λ (k : ℕ). sum k f) e
+sum-rows (suc n) m f =
+    let e : m * suc n ≡ m * n + m = omega arith in
+    ap (λ (k : ℕ). sum k f) e
+    ∙ sum-append (m * n) m f
+    ∙ ap (λ (z : ℤ). z +ℤ sum m (λ column. f (m * n + column))) (sum-rows n m f)
 
 -- ---- the unit matrix
 

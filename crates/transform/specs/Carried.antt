@@ -1,0 +1,33 @@
+-- "Weights for carrying coefficients back: a 25, b 4, c 10; C-transposed times the weighted Y times C is 400X."
+-- (01, "Transform, quantizer, rescaling".) Assumes nothing.
+use mathlib.Core.List.{List, map}
+use Prim.Native.Nat.{ℕ}
+use lib.IntN.{ℤ, pos, _*ℤ_}
+use lib.ListN.{getD}
+use Rattle.lists.specs.Tab.{tab}
+use Rattle.whole.specs.Sum.{sum}
+use Rattle.quantizer.specs.Tables.{classAtPlace}
+use Rattle.quantizer.specs.declared.Class.{Class}
+use Rattle.quantizer.specs.declared.Class.the-variants.{A, B, C}
+use Rattle.transform.specs.Matrix.{product, transposed, raster, entries}
+use Rattle.transform.specs.Forward as forward
+
+abbrev pub weightOf : Class → ℤ
+weightOf A = pos 25
+weightOf B = pos 4
+weightOf C = pos 10
+
+-- each of sixteen coefficients times the weight of its place
+unfoldable pub weighted : List ℤ → List ℤ
+weighted y = tab 16 (λ place. weightOf (classAtPlace place) *ℤ getD y place (pos 0))
+
+unfoldable pub carriedBack : List ℤ → List ℤ
+carriedBack y = entries 4 (product 4 (transposed forward.C) (product 4 (raster 4 (weighted y)) forward.C))
+
+-- each number of a list times s
+abbrev pub scaled : ℤ → List ℤ → List ℤ
+scaled s l = map (λ (z : ℤ). s *ℤ z) l
+
+-- the summed products of two lists of sixteen
+unfoldable pub products : List ℤ → List ℤ → ℤ
+products x z = sum 16 (λ place. getD x place (pos 0) *ℤ getD z place (pos 0))

@@ -1,0 +1,17 @@
+-- "Y = C X C-transposed" (01, "Transform, quantizer, rescaling"). Assumes nothing.
+use mathlib.Core.List.{List, [], _∷_}
+use lib.IntN.{ℤ, pos, negsuc}
+use Rattle.transform.specs.Matrix.{Matrix, product, transposed, raster, entries}
+
+-- "C has rows (1,1,1,1), (2,1,-1,-2), (1,-1,-1,1), (1,-2,2,-1)."
+abbrev pub C : Matrix
+C =
+    raster 4
+    (pos 1 ∷ pos 1 ∷ pos 1 ∷ pos 1
+    ∷ pos 2 ∷ pos 1 ∷ negsuc 0 ∷ negsuc 1
+    ∷ pos 1 ∷ negsuc 0 ∷ negsuc 0 ∷ pos 1
+    ∷ pos 1 ∷ negsuc 1 ∷ pos 2 ∷ negsuc 0 ∷ [])
+
+-- the coefficients of a block's sixteen residuals
+unfoldable pub forward : List ℤ → List ℤ
+forward x = entries 4 (product 4 C (product 4 (raster 4 x) (transposed C)))

@@ -1,0 +1,32 @@
+-- "Inverse, each row first, then each column" (01, "Transform, quantizer, rescaling"; ITU-T H.264, 8.5.12.2). Assumes nothing.
+use mathlib.Core.List.{List, [], _∷_}
+use Prim.Native.Nat.{ℕ}
+use lib.IntN.{ℤ, pos, _+ℤ_, _-ℤ_}
+use lib.ListN.{getD}
+use lib.Signed.{shrZ}
+use Rattle.transform.specs.Matrix.{Line, eachRow, eachColumn, raster, entries}
+
+-- "shifts round down": z >> 1
+abbrev pub half : ℤ → ℤ
+half z = shrZ z 2
+
+-- "from w0..w3 make e=w0+w2, g=w0-w2, k=(w1>>1)-w3, m=w1+(w3>>1), giving e+m, g+k, g-k, e-m"
+abbrev pub butterfly : ℤ → ℤ → ℤ → ℤ → List ℤ
+butterfly w0 w1 w2 w3 =
+    let e = w0 +ℤ w2 in
+    let g = w0 -ℤ w2 in
+    let k = half w1 -ℤ w3 in
+    let m = w1 +ℤ half w3 in
+    (e +ℤ m) ∷ (g +ℤ k) ∷ (g -ℤ k) ∷ (e -ℤ m) ∷ []
+
+-- the same of a row or a column
+abbrev pub back : Line → Line
+back w = λ place. getD (butterfly (w 0) (w 1) (w 2) (w 3)) place (pos 0)
+
+-- "Residual = (value+32)>>6"
+abbrev pub rounded : ℤ → ℤ
+rounded z = shrZ (z +ℤ pos 32) 64
+
+-- the residuals of a block's sixteen rescaled coefficients
+unfoldable pub inverse : List ℤ → List ℤ
+inverse d = entries 4 (λ row column. rounded (eachColumn back (eachRow back (raster 4 d)) row column))

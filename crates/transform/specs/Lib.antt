@@ -1,0 +1,6 @@
+pub mod Block
+pub mod Carried
+pub mod Forward
+pub mod Hadamard
+pub mod Inverse
+pub mod Matrix
