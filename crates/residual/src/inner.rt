@@ -7,11 +7,12 @@ ghost use lib.ListN.{getD};
 ghost use Rattle.lists.specs.Tab.{tab};
 ghost use Rattle.whole.specs.Clip.{clip};
 ghost use Rattle.whole.specs.Bounds.{Within, Each};
-ghost use Rattle.residual.specs.Quantize.{levelBy};
+ghost use Rattle.residual.specs.Quantize.{levelBy, fOf};
+ghost use Rattle.residual.specs.Levels.{quantized};
 ghost use Rattle.quantizer.specs.Range.{highest, periodOf, remainderOf};
 ghost use Rattle.quantizer.specs.Tables.{vOf};
 ghost use Rattle.residual.specs.Rescale.{mfAt, vAt, rescaled};
-ghost use Rattle.residual.specs.Rebuild.{added};
+ghost use Rattle.residual.specs.Rebuild.{added, samplesOf};
 ghost use Rattle.residual.specs.Order.{inZigzag, inPlaces};
 use quantizer::Class;
 use quantizer::Quantizer;
@@ -66,6 +67,30 @@ pub(crate) fn levels_of(y: [i32; 16], mf: [u32; 16], f: u32, q: u32) -> [i32; 16
         levels[k] = level(y[k], mf[k], f, q);
     }
     levels
+}
+
+// What is added before a size is divided: a third of the divisor.
+pub fn third(period: u8) -> u32
+    requires { ⌜ period ≤ 8 ⌝ }
+    ensures { λ r. ⌜ r ≡ fOf period ⌝ }
+{
+    let divisor = 1u32 << (15 + period);
+    divisor / 3
+}
+
+// The levels of sixteen residuals, in raster order.
+pub fn quantized(quantizer: Quantizer, residual: [i32; 16]) -> [i32; 16]
+    requires { ⌜ (quantizer .qp ≤ highest) × (Each 255 residual) ⌝ }
+    ensures { λ r. ⌜ r ≡ quantized (quantizer .qp) residual ⌝ }
+{
+    let coefficients = transform::inner::forward_block(residual);
+    let period = quantizer.period();
+    levels_of(
+        coefficients,
+        multipliers(quantizer),
+        third(period),
+        15 + (period as u32),
+    )
 }
 
 // Sixteen numbers from raster order into zigzag order.
@@ -135,4 +160,12 @@ pub(crate) fn added(prediction: [u8; 16], residual: [i32; 16]) -> [u8; 16]
         out[place] = sample(prediction[place], residual[place]);
     }
     out
+}
+
+// The samples of a prediction and of sixteen rescaled numbers.
+pub fn samples(prediction: [u8; 16], numbers: [i32; 16]) -> [u8; 16]
+    requires { ⌜ Each 32768 numbers ⌝ }
+    ensures { λ r. ⌜ r ≡ samplesOf prediction numbers ⌝ }
+{
+    added(prediction, transform::inner::inverse_block(numbers))
 }
