@@ -1,19 +1,23 @@
 -- Products of matrices over the size n, and what they undo.
 --     product-ext, product-assoc            equal factors; three factors
 --     Undoes: undone-line, undone           Q P is s times the unit matrix: then Q takes P x back to s x, and on both sides P X Pᵀ to s s X
+--     around-ext, there-and-back            the same of squares in lists
 --     agree-line, agree                     where Q is P-transposed by weights: products summed, and those of P's lines, weighted and summed
 -- Assumes nothing.
 use mathlib.Core.Path.{_≡_, refl, sym, ap, _∙_}
-use mathlib.Core.List.{[], _∷_}
+use mathlib.Core.List.{List, [], _∷_}
 use mathlib.Core.Bool.{Bool, cond}
-use Prim.Native.Nat.{ℕ, _<_}
+use Prim.Native.Nat.{ℕ, _+_, _*_, _<_}
 use lib.Dec.{eqb}
 use lib.IntN.{ℤ, pos, _*ℤ_, *ℤ-comm}
+use lib.ListN.{length, getD, length-map, List·getD-map}
 use Rattle.whole.specs.Sum.{sum, unit}
 use Rattle.whole.proofs.Ring.{ring, var, con, _⊕_, _⊗_}
 use Rattle.whole.proofs.Sums.{sum-ext, sum-scale, sum-swap, picked}
 use Rattle.transform.specs.Block.{through}
-use Rattle.transform.specs.Matrix.{Line, Matrix, product, transposed}
+use Rattle.transform.specs.Carried.{scaled}
+use Rattle.transform.specs.Matrix.{Line, Matrix, product, transposed, raster, entries}
+use Rattle.transform.proofs.Squares.{entries-at, entries-of}
 
 -- M X M-transposed
 abbrev pub around : ℕ → Matrix → Matrix → Matrix
@@ -22,6 +26,11 @@ around n M X = product n M (product n X (transposed M))
 -- Q P is s times the unit matrix
 abbrev pub Undoes : ℕ → Matrix → Matrix → ℤ → Type 0
 Undoes n Q P s = (i j : ℕ) → i < n → j < n → product n Q P i j ≡ s *ℤ unit i j
+
+pub scaled-at : (s : ℤ) (l : List ℤ) (k : ℕ) → getD (scaled s l) k (pos 0) ≡ s *ℤ getD l k (pos 0)
+scaled-at s l k =
+    ap (λ (d : ℤ). getD (scaled s l) k d) (ring (s ∷ []) (con (pos 0)) (var 0 ⊗ con (pos 0)) refl)
+    ∙ List·getD-map (λ (z : ℤ). s *ℤ z) l k (pos 0)
 
 module _ (n : ℕ) where
   pub product-ext : (A A′ B B′ : Matrix) (i j : ℕ) → ((k : ℕ) → k < n → A i k ≡ A′ i k) → ((k : ℕ) → k < n → B k j ≡ B′ k j)
@@ -40,6 +49,9 @@ module _ (n : ℕ) where
   -- a row through M, with the factors exchanged
   exchanged : (M : Matrix) (x : Line) (j : ℕ) → sum n (λ k. x k *ℤ M j k) ≡ through n M x j
   exchanged M x j = sum-ext n _ _ (λ k h. *ℤ-comm (x k) (M j k))
+
+  around-ext : (M X Y : Matrix) → ((i j : ℕ) → i < n → j < n → X i j ≡ Y i j) → (i j : ℕ) → around n M X i j ≡ around n M Y i j
+  around-ext M X Y same i j = sum-ext n _ _ (λ k h. ap (λ (z : ℤ). M i k *ℤ z) (sum-ext n _ _ (λ l m. ap (λ (z : ℤ). z *ℤ M j l) (same k l h m))))
 
   -- ---- what undoes P in one dimension does so in two
 
@@ -60,6 +72,14 @@ module _ (n : ℕ) where
         ∙ undone-line (λ k. product n rows (transposed Q) k j) i h
         ∙ ap (λ (z : ℤ). s *ℤ z) (exchanged Q (rows i) j ∙ sum-ext n _ _ (λ k m. ap (λ (z : ℤ). Q j k *ℤ z) (exchanged P (X i) k)) ∙ undone-line (X i) j l)
         ∙ ring (s ∷ X i j ∷ []) (var 0 ⊗ (var 0 ⊗ var 1)) ((var 0 ⊗ var 0) ⊗ var 1) refl
+
+    -- and so of squares in lists
+    pub there-and-back : (l : List ℤ) → length l ≡ n * n → entries n (around n Q (raster n (entries n (around n P (raster n l))))) ≡ scaled (s *ℤ s) l
+    there-and-back l e =
+        entries-of n _ (scaled (s *ℤ s) l) (length-map l _ ∙ e) (λ i j h m.
+        around-ext Q (raster n (entries n (around n P (raster n l)))) (around n P (raster n l)) (entries-at n (around n P (raster n l))) i j
+        ∙ undone (raster n l) i j h m
+        ∙ sym (scaled-at (s *ℤ s) l (n * i + j)))
 
   -- ---- summed products: Q is P-transposed, each column by its weight
 

@@ -1,5 +1,6 @@
 pub mod Block
 pub mod Carried
+pub mod Entry
 pub mod Forward
 pub mod Hadamard
 pub mod Inverse
