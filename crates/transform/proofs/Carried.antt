@@ -29,8 +29,7 @@ use Rattle.transform.specs.Hadamard.{H4, H2, hadamard}
 use Rattle.transform.specs.Matrix.{Line, Matrix, product, transposed, raster, entries}
 use Rattle.transform.proofs.Products.{around, Undoes, scaled-at, there-and-back, agree}
 use Rattle.transform.proofs.Squares.{entries-at, entries-same, entries-of, length-entries}
-use Rattle.transform.proofs.Sides.{H4-symmetric, H2-symmetric}
-use Rattle.transform.proofs.Through.{sides-symmetric}
+use Rattle.transform.proofs.Sides.{forward-around, hadamard-around, H4-symmetric, H2-symmetric}
 
 -- ---- one dimension: weights 5, 2, 5, 2, and s = 20
 
@@ -62,10 +61,6 @@ weighted-at y i j h l =
     ∙ ap (λ (z : ℤ). z *ℤ raster 4 y i j) (weight i j h l)
 
 -- ---- two dimensions
-
-forward-around : (x : List ℤ) → forward x ≡ entries 4 (around 4 C (raster 4 x))
-unfolding forward
-forward-around x = refl
 
 carried-around : (y : List ℤ) → carriedBack y ≡ entries 4 (around 4 Back (raster 4 y))
 unfolding carriedBack Back
@@ -183,14 +178,10 @@ coefficients-exactly-if y e = (only, if)
 -- ---- twice through H
 
 module _ (n : ℕ) (H : Matrix) (s : ℤ) (symmetric : (i j : ℕ) → i < n → j < n → H i j ≡ H j i) (undoes : Undoes n H H s) where
-  hadamard-around : (l : List ℤ) → hadamard n H l ≡ entries n (around n H (raster n l))
-  unfolding hadamard
-  hadamard-around l = entries-same n _ _ (sides-symmetric n H (raster n l) symmetric)
-
   pub twice-through : (l : List ℤ) → length l ≡ n * n → hadamard n H (hadamard n H l) ≡ scaled (s *ℤ s) l
   twice-through l e =
-      hadamard-around (hadamard n H l)
-      ∙ ap (λ (m : List ℤ). entries n (around n H (raster n m))) (hadamard-around l)
+      hadamard-around n H symmetric (hadamard n H l)
+      ∙ ap (λ (m : List ℤ). entries n (around n H (raster n m))) (hadamard-around n H symmetric l)
       ∙ there-and-back n H H s undoes l e
 
 pub twice-through-4 : (l : List ℤ) → length l ≡ 16 → hadamard 4 H4 (hadamard 4 H4 l) ≡ scaled (pos 16) l

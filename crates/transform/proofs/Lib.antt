@@ -1,8 +1,11 @@
+pub mod Bounds
 pub mod Carried
 pub mod Entry
+pub mod Measured
 pub mod Products
 pub mod Rows
 pub mod Sides
 pub mod Squares
 pub mod Through
 pub mod Unique
+pub mod Witness

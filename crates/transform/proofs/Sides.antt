@@ -1,7 +1,9 @@
 -- The code's way over both sides of a block: rows, exchanged, rows, exchanged.
 --     kept, crossed, rowed               bounds along the way
 --     chained                            each row first, then each column
---     forward-sides, hadamard-sides      the products so
+--     forward-around, hadamard-around    the definitions as M X M-transposed
+--     forward-sides, hadamard-sides      and as each row through M, then each column
+--     rounded-inverse                    the inverse's last step
 -- Assumes nothing.
 use mathlib.Core.Path.{_≡_, refl, sym, ap, subst, _∙_}
 use mathlib.Core.List.{List}
@@ -16,6 +18,7 @@ use Rattle.transform.specs.Forward.{C, forward}
 use Rattle.transform.specs.Hadamard.{H4, H2, hadamard}
 use Rattle.transform.specs.Inverse.{back, inverse, rounded}
 use Rattle.transform.specs.Matrix.{Line, Matrix, transposed, eachRow, eachColumn, raster, entries}
+use Rattle.transform.proofs.Products.{around}
 use Rattle.transform.proofs.Squares.{Local, Grows, entries-same, turn-each, byRow-each, both-sides}
 use Rattle.transform.proofs.Through.{sides, sides-symmetric}
 
@@ -40,9 +43,12 @@ chained f local r l4 l3 l2 l1 l0 x e5 e4 e3 e2 e1 e0 =
 
 -- ---- the products
 
-pub forward-sides : (x : List ℤ) → forward x ≡ entries 4 (eachColumn (through 4 C) (eachRow (through 4 C) (raster 4 x)))
+pub forward-around : (x : List ℤ) → forward x ≡ entries 4 (around 4 C (raster 4 x))
 unfolding forward
-forward-sides x = entries-same 4 _ _ (λ i j h l. sides 4 C (raster 4 x) i j)
+forward-around x = refl
+
+pub forward-sides : (x : List ℤ) → forward x ≡ entries 4 (eachColumn (through 4 C) (eachRow (through 4 C) (raster 4 x)))
+forward-sides x = forward-around x ∙ entries-same 4 _ _ (λ i j h l. sides 4 C (raster 4 x) i j)
 
 pub H4-symmetric : (i j : ℕ) → i < 4 → j < 4 → H4 i j ≡ H4 j i
 H4-symmetric = same-below 4 H4 (transposed H4) tt
@@ -50,10 +56,13 @@ H4-symmetric = same-below 4 H4 (transposed H4) tt
 pub H2-symmetric : (i j : ℕ) → i < 2 → j < 2 → H2 i j ≡ H2 j i
 H2-symmetric = same-below 2 H2 (transposed H2) tt
 
-pub hadamard-sides : (n : ℕ) (H : Matrix) → ((i j : ℕ) → i < n → j < n → H i j ≡ H j i)
-    → (w : List ℤ) → hadamard n H w ≡ entries n (eachColumn (through n H) (eachRow (through n H) (raster n w)))
-unfolding hadamard
-hadamard-sides n H symmetric w = entries-same n _ _ (λ i j h l. sides-symmetric n H (raster n w) symmetric i j h l ∙ sides n H (raster n w) i j)
+module _ (n : ℕ) (H : Matrix) (symmetric : (i j : ℕ) → i < n → j < n → H i j ≡ H j i) (w : List ℤ) where
+  pub hadamard-around : hadamard n H w ≡ entries n (around n H (raster n w))
+  unfolding hadamard
+  hadamard-around = entries-same n _ _ (sides-symmetric n H (raster n w) symmetric)
+
+  pub hadamard-sides : hadamard n H w ≡ entries n (eachColumn (through n H) (eachRow (through n H) (raster n w)))
+  hadamard-sides = hadamard-around ∙ entries-same n _ _ (λ i j h l. sides n H (raster n w) i j)
 
 -- the inverse's last step
 pub rounded-inverse : (d : List ℤ) {r l : List ℤ} → r ≡ tab 16 (λ place. rounded (line l place)) → l ≡ entries 4 (eachColumn back (eachRow back (raster 4 d))) → r ≡ inverse d

@@ -1,5 +1,6 @@
 -- A line through a matrix: what it looks at, how large it can be, and the products as such lines, over the size n.
 --     through-local, through-within, through-grows     `Local` and `Grows` of it; the bound by the sizes of a row's entries, summed
+--     around-within                                    the bound of M X M-transposed, by the row's and the column's sums
 --     sides, sides-symmetric                           M X M-transposed, and H X H of a symmetric H: each row through it, then each column
 -- Assumes nothing.
 use mathlib.Core.Path.{_≡_, refl, sym, ap, subst, _∙_}
@@ -41,6 +42,12 @@ module _ (n : ℕ) (M : Matrix) where
       let s = sum-within n (M i) x B h in
       let e = leb→le (reach n (M i) * B) A (every-at n (λ i. leb (reach n (M i) * B) A) t i l) in
       record { size = omega arith }
+
+  pub around-within : (X : Matrix) (B : ℕ) → ((i j : ℕ) → i < n → j < n → Within B (X i j)) → (i j : ℕ)
+      → Within (reach n (M i) * (reach n (M j) * B)) (around n M X i j)
+  around-within X B h i j =
+      sum-within n (M i) (λ k. product n X (transposed M) k j) (reach n (M j) * B)
+      (λ k l. subst (λ (z : ℤ). Within (reach n (M j) * B) z) (sum-ext n _ _ (λ m b. *ℤ-comm (M j m) (X k m))) (sum-within n (M j) (X k) B (λ m b. h k m l b)))
 
   module _ (X : Matrix) where
     pub sides : (i j : ℕ) → around n M X i j ≡ eachColumn (through n M) (eachRow (through n M) X) i j
