@@ -48,7 +48,7 @@ pub(crate) fn scales(quantizer: Quantizer) -> [i32; 16]
 }
 
 // The level of a coefficient: its size times mf, and f, divided by 2^q; then its sign.
-pub(crate) fn level(y: i32, mf: u32, f: u32, q: u32) -> i32
+pub fn level(y: i32, mf: u32, f: u32, q: u32) -> i32
     requires { ⌜ (Within 65280 y) × (mf ≤ 13107) × (f ≤ 11184810) × (q ≤ 25) ⌝ }
     ensures { λ r. ⌜ r ≡ levelBy mf f q y ⌝ }
 {
@@ -58,8 +58,8 @@ pub(crate) fn level(y: i32, mf: u32, f: u32, q: u32) -> i32
 }
 
 // The sixteen levels, each by the multiplier of its place.
-pub(crate) fn levels_of(y: [i32; 16], mf: [u32; 16], f: u32, q: u32) -> [i32; 16]
-    requires { ⌜ (Each 65280 y) × ((k : ℕ) → getD mf k 0 ≤ 13107) × (f ≤ 11184810) × (q ≤ 25) ⌝ }
+pub fn levels_of(y: [i32; 16], mf: [u32; 16], f: u32, q: u32) -> [i32; 16]
+    requires { ⌜ (Each 65280 y) × ((k : ℕ) → k < 16 → getD mf k 0 ≤ 13107) × (f ≤ 11184810) × (q ≤ 25) ⌝ }
     ensures { λ r. ⌜ r ≡ tab 16 (λ k. levelBy (getD mf k 0) f q (getD y k (pos 0))) ⌝ }
 {
     let mut levels = [0i32; 16];

@@ -40,7 +40,7 @@ level-requires : tie.Need-level-requires Inv-loop μ-loop
 level-requires c κs =
     let a = c .before .before .before in
     let k = c .before .before .loop .k in
-    (within (argument w32 (each-at 65280 (a .args .t1) (a .pre .0) k) tt), a .pre .1 k, a .pre .2, a .pre .3)
+    (within (argument w32 (each-at 65280 (a .args .t1) (a .pre .0) k) tt), a .pre .1 k (omega arith), a .pre .2, a .pre .3)
 
 mul-levels : tie.Need-mul-levels Inv-loop μ-loop
 mul-levels c = search needs

@@ -1,0 +1,43 @@
+-- The contracts of `residual` determine what its functions answer and leave in their outputs. Assumes nothing.
+use mathlib.Core.Path.{_≡_, refl, sym, _∙_}
+use Rattle.unique.specs.Unique.{Unique}
+use Rattle.residual.proofs.inner.third.Kinds as third
+use Rattle.residual.proofs.inner.third.Reads as third-reads
+use Rattle.residual.proofs.inner.level.Kinds as level
+use Rattle.residual.proofs.inner.level.Reads as level-reads
+use Rattle.residual.proofs.inner.levels_of.Kinds as levels-of
+use Rattle.residual.proofs.inner.levels_of.Reads as levels-of-reads
+use Rattle.residual.proofs.inner.quantized.Kinds as quantized
+use Rattle.residual.proofs.inner.quantized.Reads as quantized-reads
+use Rattle.residual.proofs.inner.in_zigzag.Kinds as in-zigzag
+use Rattle.residual.proofs.inner.in_zigzag.Reads as in-zigzag-reads
+use Rattle.residual.proofs.inner.in_places.Kinds as in-places
+use Rattle.residual.proofs.inner.in_places.Reads as in-places-reads
+use Rattle.residual.proofs.inner.rescaled.Kinds as rescaled
+use Rattle.residual.proofs.inner.rescaled.Reads as rescaled-reads
+use Rattle.residual.proofs.inner.samples.Kinds as samples
+use Rattle.residual.proofs.inner.samples.Reads as samples-reads
+
+pub third-unique : Unique 0 third.ps third.r third-reads.Learnt (Unit {0}) (λ κs e. tt)
+third-unique κs a x y e f p q = (p ∙ sym q, refl)
+
+pub level-unique : Unique 0 level.ps level.r level-reads.Learnt (Unit {0}) (λ κs e. tt)
+level-unique κs a x y e f p q = (p ∙ sym q, refl)
+
+pub levels-of-unique : Unique 0 levels-of.ps levels-of.r levels-of-reads.Learnt (Unit {0}) (λ κs e. tt)
+levels-of-unique κs a x y e f p q = (p ∙ sym q, refl)
+
+pub quantized-unique : Unique 0 quantized.ps quantized.r quantized-reads.Learnt (Unit {0}) (λ κs e. tt)
+quantized-unique κs a x y e f p q = (p ∙ sym q, refl)
+
+pub in-zigzag-unique : Unique 0 in-zigzag.ps in-zigzag.r in-zigzag-reads.Learnt (Unit {0}) (λ κs e. tt)
+in-zigzag-unique κs a x y e f p q = (p ∙ sym q, refl)
+
+pub in-places-unique : Unique 0 in-places.ps in-places.r in-places-reads.Learnt (Unit {0}) (λ κs e. tt)
+in-places-unique κs a x y e f p q = (p ∙ sym q, refl)
+
+pub rescaled-unique : Unique 0 rescaled.ps rescaled.r rescaled-reads.Learnt (Unit {0}) (λ κs e. tt)
+rescaled-unique κs a x y e f p q = (p ∙ sym q, refl)
+
+pub samples-unique : Unique 0 samples.ps samples.r samples-reads.Learnt (Unit {0}) (λ κs e. tt)
+samples-unique κs a x y e f p q = (p ∙ sym q, refl)
