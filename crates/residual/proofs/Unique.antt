@@ -1,6 +1,8 @@
 -- The contracts of `residual` determine what its functions answer and leave in their outputs. Assumes nothing.
 use mathlib.Core.Path.{_≡_, refl, sym, _∙_}
 use Rattle.unique.specs.Unique.{Unique}
+use Rattle.residual.proofs.inner.scale.Kinds as scale
+use Rattle.residual.proofs.inner.scale.Reads as scale-reads
 use Rattle.residual.proofs.inner.third.Kinds as third
 use Rattle.residual.proofs.inner.third.Reads as third-reads
 use Rattle.residual.proofs.inner.level.Kinds as level
@@ -17,6 +19,9 @@ use Rattle.residual.proofs.inner.rescaled.Kinds as rescaled
 use Rattle.residual.proofs.inner.rescaled.Reads as rescaled-reads
 use Rattle.residual.proofs.inner.samples.Kinds as samples
 use Rattle.residual.proofs.inner.samples.Reads as samples-reads
+
+pub scale-unique : Unique 0 scale.ps scale.r scale-reads.Learnt (Unit {0}) (λ κs e. tt)
+scale-unique κs a x y e f p q = (p ∙ sym q, refl)
 
 pub third-unique : Unique 0 third.ps third.r third-reads.Learnt (Unit {0}) (λ κs e. tt)
 third-unique κs a x y e f p q = (p ∙ sym q, refl)
