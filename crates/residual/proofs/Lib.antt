@@ -1,3 +1,4 @@
+pub mod Entry
 pub mod Quantize
 pub mod Rescale
 pub mod Unique
