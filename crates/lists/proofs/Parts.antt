@@ -1,16 +1,17 @@
 -- Lists that grow from the front, by stores and by lent parts that come home, and parts pasted into a list.
 --     Growing: growing-none, growing-more, growing-part, growing-done       the first n elements are v
 --     Pasting: pasting-none, pasting-more, pasting-done                     stores from place a on, the others as they were
+--     copied                                                                a whole list copied over another
 --     parts-none, parts-more, part-home                                     parts one behind the other; a lent part, as a paste
 -- Assumes nothing.
 use mathlib.Core.Path.{_≡_, refl, sym, ap, _∙_}
-use mathlib.Core.List.{List, [], _∷_, _++_, append-assoc}
+use mathlib.Core.List.{List, [], _∷_, _++_, append-assoc, append-nil}
 use Prim.Native.Nat.{ℕ, zero, suc, _+_, _-_, _<_, _≤_, zero-le}
 use native.Mathlib.Numerals.{add-one}
 use native.Mathlib.Omega.{arith}
 use borrow.Rule.Slice.PartMut.{putMid, postOf, post-is}
-use lib.ListN.{length, set, take, drop, getD, length-append, length-set}
-use lib.Seq.{take-suc-set, take-all, take-at, length-take-le, paste, paste-zero, paste-suc}
+use lib.ListN.{length, set, take, drop, getD, length-append, length-set, drop-of-length-le}
+use lib.Seq.{take-suc-set, take-all, take-length, take-at, length-take-le, paste, paste-zero, paste-suc}
 use Rattle.lists.specs.Parts.{parts, pasted}
 
 module _ {A : Type 0} where
@@ -43,6 +44,10 @@ module _ {A : Type 0} where
 
   pub growing-done : {d v : List A} {n : ℕ} → Growing d v n → length d ≤ n → d ≡ v
   growing-done {d} {v} {n} g h = sym (take-all n d h) ∙ g .is
+
+  -- s copied over the front of a list that is as long
+  pub copied : (s d : List A) → length s ≡ length d → take (length s) s ++ drop (length s) d ≡ s
+  copied s d e = rw (take-length s, drop-of-length-le d {i = length s} (omega arith)) (append-nil s)
 
   -- ---- parts one behind the other
 

@@ -1,3 +1,5 @@
+pub mod Entry
+pub mod Order
 pub mod Quantize
 pub mod Rescale
 pub mod Unique

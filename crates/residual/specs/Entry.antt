@@ -48,6 +48,12 @@ pub record Levels (qp : ℕ) (residual out : List ℤ) (r : Answer) (after : Lis
   pub says : Says (said r) (chain (levelsTests qp residual out))
   pub wrote : after ≡ written (chain (levelsTests qp residual out)) (levelsOf qp residual) out
 
+-- ---- the end of rebuilding: RANGE
+
+pub record Finishes (prediction : List ℕ) (d : List ℤ) (out : List ℕ) (r : Answer) (after : List ℕ) : Type 0 where
+  pub says : Says (said r) (chain (rangeTest d ∷ []))
+  pub wrote : after ≡ written (chain (rangeTest d ∷ [])) (samplesOf prediction d) out
+
 -- ---- rebuild: LENGTH, QUANTIZER, LEVEL, RANGE
 
 abbrev pub rebuildTests : ℕ → List ℕ → List ℤ → List ℕ → List (Test Refusal)
