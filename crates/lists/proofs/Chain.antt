@@ -1,12 +1,15 @@
 -- The law of a chain of tests: refused exactly if a test fails and all before it pass, passed exactly if all pass.
+--     AllPass, RefusedWith, ExactlyIf, chain-exactly-if
+--     chain-passed, chain-refused     a chain behind a chain
+--     written-passed, written-refused     what an output holds at exit, by the verdict
 -- Assumes nothing.
 use mathlib.Core.Path.{_≡_, refl, sym, ap, _∙_}
 use mathlib.Core.Bool.{Bool, true, false, cond}
 use mathlib.Core.Logic.{_⊎_, inl, inr, _↔_}
-use mathlib.Core.List.{List, [], _∷_}
+use mathlib.Core.List.{List, [], _∷_, _++_}
 use Prim.Native.Nat.{ℕ}
 use native.Mathlib.Omega.{arith}
-use Rattle.lists.specs.Chain.{Test, Verdict, pass, stop, chain}
+use Rattle.lists.specs.Chain.{Test, Verdict, pass, stop, chain, written}
 
 module _ {R : Type 0} where
   -- every test passes
@@ -51,6 +54,19 @@ module _ {R : Type 0} where
       by rest true p q = inr (p, rest q)
       by rest false p q = inl (p, stop-inner q)
 
+  -- a chain behind a chain
+  pub chain-passed : (ts us : List (Test R)) → chain ts ≡ pass → chain (ts ++ us) ≡ chain us
+  chain-passed [] us e = refl
+  chain-passed (t ∷ ts) us e = let h = passed-only (t ∷ ts) e in rw (h .0) (chain-passed ts us (passed-if ts (h .1)))
+
+  pub chain-refused : (ts us : List (Test R)) (r : R) → chain ts ≡ stop r → chain (ts ++ us) ≡ stop r
+  chain-refused [] us r e = absurd (pass-not-stop e)
+  chain-refused (t ∷ ts) us r e = by (chain-refused ts us r) (refused-only (t ∷ ts) r e)
+    where
+      by : (chain ts ≡ stop r → chain (ts ++ us) ≡ stop r) → RefusedWith (t ∷ ts) r → chain (t ∷ (ts ++ us)) ≡ stop r
+      by rest (inl h) = rw (h .0, h .1)
+      by rest (inr h) = rw (h .0) (rest (refused-if ts r (h .1)))
+
   -- both halves, of a chain
   pub record ExactlyIf (ts : List (Test R)) (v : Verdict R) : Type 0 where
     pub passes : (v ≡ pass) ↔ AllPass ts
@@ -61,3 +77,11 @@ module _ {R : Type 0} where
     passes = (passed-only ts, passed-if ts);
     refuses = λ r. (refused-only ts r, refused-if ts r);
   }
+
+  -- what an output holds at exit
+  module _ {A : Type 0} {v : Verdict R} where
+    pub written-passed : {new after : A} (old : A) → v ≡ pass → after ≡ new → after ≡ written v new old
+    written-passed {new} old e made = made ∙ ap (λ (w : Verdict R). written w new old) (sym e)
+
+    pub written-refused : {old : A} {r : R} (new : A) → v ≡ stop r → old ≡ written v new old
+    written-refused {old} new e = ap (λ (w : Verdict R). written w new old) (sym e)
