@@ -58,12 +58,12 @@ quantized-each : (n s K qp : ℕ) (t : List ℤ) → ((y : ℤ) → Within 65280
 unfolding quantizedDc
 quantized-each n s K qp t small h = each-tab K n _ (λ k l. small (getD t k (pos 0)) (each-at 65280 t h k))
 
-zigzag-each : (B : ℕ) (l : List ℤ) → Each B l → Each B (inZigzag l)
+ordered-each : (B : ℕ) (l : List ℤ) → Each B l → Each B (inZigzag l)
 unfolding inZigzag
-zigzag-each B l h = each-tab B 16 _ (λ k m. each-at B l h (zigzagOf k))
+ordered-each B l h = each-tab B 16 _ (λ k m. each-at B l h (zigzagOf k))
 
 pub luma-levels-each : (qp : ℕ) (dc : List ℤ) → Each 4080 dc → Each 6528 (lumaLevels qp dc)
 unfolding lumaLevels
 luma-levels-each qp dc h =
-    zigzag-each 6528 (quantizedDc 16 2 qp (hadamard 4 H4 dc))
+    ordered-each 6528 (quantizedDc 16 2 qp (hadamard 4 H4 dc))
     (quantized-each 16 2 6528 qp (hadamard 4 H4 dc) (λ y b. level-within 2 (periodOf qp) (mfA qp) 65280 13107 6528 y b (mf-small qp) tt) (luma-around dc h))

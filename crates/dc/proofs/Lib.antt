@@ -1,3 +1,4 @@
 pub mod Bits
+pub mod Entry
 pub mod Levels
 pub mod Values

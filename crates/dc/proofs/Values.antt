@@ -2,7 +2,7 @@
 --     products-within                   numbers times the scale of class a, over the power of two
 --     luma-back, chroma-back            g of levels of 16 bits
 --     scaled-zero, scaled-one, scaled-high, luma-scaled-by     the scaling rule at k = 2, as the code has it: periods 0, 1 and from 2 on
---     chroma-scaled-by                  chroma's plain shift
+--     chroma-scaled-by, chroma-values-length     chroma's plain shift, and that its values are four
 -- Assumes nothing.
 use mathlib.Core.Path.{_≡_, refl, sym, ap, subst, _∙_}
 use mathlib.Core.List.{List}
@@ -11,24 +11,22 @@ use native.Mathlib.Nat.{mul-le-mul}
 use native.Mathlib.Omega.{arith}
 use borrow.Author.Tests.{le-leb}
 use lib.IntN.{ℤ, pos, natAbs, _+ℤ_, _*ℤ_, +ℤ-idr}
-use lib.ListN.{getD}
+use lib.ListN.{length, getD}
 use lib.Pow.{pow-mono}
 use lib.Signed.{shrZ}
 use Rattle.lists.specs.Tab.{tab}
+use Rattle.lists.proofs.Tab.{length-tab}
 use Rattle.whole.specs.Bounds.{Within, Each}
 use Rattle.whole.proofs.Bound.{abs-mul}
 use Rattle.whole.proofs.Laws.{*ℤ-assoc, shr-one}
-use Rattle.whole.proofs.Lists.{each-tab}
 use Rattle.whole.proofs.Steps.{each-at}
 use Rattle.transform.specs.Hadamard.{H4, H2, hadamard}
 use Rattle.transform.proofs.Bounds.{hadamard4-each, hadamard2-each}
 use Rattle.quantizer.specs.Range.{highest, periodOf, remainderOf}
-use Rattle.quantizer.specs.Tables.{stepOf}
 use Rattle.quantizer.specs.declared.Class.the-variants.{A}
 use Rattle.quantizer.proofs.Tables.{v-small}
-use Rattle.residual.specs.Order.{inPlaces}
 use Rattle.residual.specs.Rescale.{scaledBy}
-use Rattle.dc.specs.Dc.{vA, lumaScaled, chromaScaled}
+use Rattle.dc.specs.Dc.{vA, lumaScaled, chromaScaled, chromaValues}
 
 -- ---- bounds
 
@@ -45,10 +43,6 @@ luma-back levels h = hadamard4-each 32768 levels h
 
 pub chroma-back : (levels : List ℤ) → Each 32768 levels → Each 131072 (hadamard 2 H2 levels)
 chroma-back levels h = hadamard2-each 32768 levels h
-
-pub places-each : (B : ℕ) (l : List ℤ) → Each B l → Each B (inPlaces l)
-unfolding inPlaces
-places-each B l h = each-tab B 16 _ (λ k m. each-at B l h (stepOf k))
 
 -- ---- luma
 
@@ -83,3 +77,7 @@ unfolding chromaScaled
 chroma-scaled-by qp g e =
     (λ i. tab 4 (λ k. shrZ (getD g k (pos 0) *ℤ e i +ℤ pos 0) 2))
     ∙ λ i. tab 4 (λ k. shrZ ((+ℤ-idr (getD g k (pos 0) *ℤ pos (vA qp * 2 ^ periodOf qp)) ∙ sym (*ℤ-assoc (getD g k (pos 0)) (pos (vA qp)) (pos (2 ^ periodOf qp)))) i) 2)
+
+pub chroma-values-length : (qp : ℕ) (levels : List ℤ) → length (chromaValues qp levels) ≡ 4
+unfolding chromaValues chromaScaled
+chroma-values-length qp levels = length-tab 4 _

@@ -1,19 +1,34 @@
 -- The entry points: tests in the table's order, and what each leaves (01, "What is sent back, and in which order it is tested").
 -- Assumes nothing.
 use mathlib.Core.Path.{_≡_}
-use mathlib.Core.List.{List, [], _∷_}
+use mathlib.Core.List.{List, [], _∷_, _++_}
 use Prim.Native.Nat.{ℕ}
 use lib.Dec.{eqb}
 use lib.IntN.{ℤ, pos, negsuc}
+use lib.ListN.{length}
 use Rattle.lists.specs.Chain.{Test, test, chain, written}
 use Rattle.refusal.specs.Number.{said, Says}
 use Rattle.refusal.specs.declared.Answer.{Answer}
 use Rattle.refusal.specs.declared.Refusal.{Refusal}
 use Rattle.refusal.specs.declared.Refusal.the-variants as refusal
 use Rattle.whole.specs.Range.{firstOutside}
-use Rattle.residual.specs.Entry.{firstWide, lengthTest, quantizerTest, rangeTest}
+use Rattle.quantizer.specs.Range as built
+use Rattle.quantizer.specs.declared.Built.{Built}
+use Rattle.residual.specs.Entry.{firstWide, quantizerTest, rangeTest}
 use Rattle.residual.specs.Order.{inZigzag}
 use Rattle.dc.specs.Dc.{lumaLevels, lumaValues, chromaLevels, chromaValues}
+
+-- LENGTH of what is lent and of what is written, then QUANTIZER: what all four test first
+abbrev pub lentTests : (n qp given room : ℕ) → List (Test Refusal)
+lentTests n qp given room =
+    test (eqb given n) refusal.Length
+    ∷ test (eqb room n) refusal.Length
+    ∷ quantizerTest qp
+    ∷ []
+
+pub record Accepts (n qp given room : ℕ) (b : Built) : Type 0 where
+  pub says : Says (built.said b) (chain (lentTests n qp given room))
+  pub value : built.qpOf b ≡ written (chain (lentTests n qp given room)) qp 0
 
 -- RESIDUAL: "DC coefficient outside -4080..4080", "first index"
 abbrev pub firstLarge : List ℤ → ℕ
@@ -30,16 +45,18 @@ levelTest n levels = test (eqb (firstWide levels) n) (refusal.Level (firstWide l
 abbrev pub ownTest : List ℤ → Test Refusal
 ownTest values = test (eqb (firstWide (inZigzag values)) 16) (refusal.Own (firstWide (inZigzag values)))
 
+-- RANGE where the levels are in raster order; `rangeTest` is that of the zigzag
+abbrev pub rasterRangeTest : ℕ → List ℤ → Test Refusal
+rasterRangeTest n values = test (eqb (firstWide values) n) (refusal.Range (firstWide values))
+
 -- ---- luma_dc_levels: LENGTH, QUANTIZER, RESIDUAL, OWN
 
 abbrev pub lumaLevelsTests : ℕ → List ℤ → List ℤ → List (Test Refusal)
 lumaLevelsTests qp dc out =
-    lengthTest 16 dc
-    ∷ lengthTest 16 out
-    ∷ quantizerTest qp
-    ∷ residualTest 16 dc
+    lentTests 16 qp (length dc) (length out)
+    ++ (residualTest 16 dc
     ∷ ownTest (lumaValues qp (lumaLevels qp dc))
-    ∷ []
+    ∷ [])
 
 pub record LumaLevels (qp : ℕ) (dc out : List ℤ) (r : Answer) (after : List ℤ) : Type 0 where
   pub says : Says (said r) (chain (lumaLevelsTests qp dc out))
@@ -49,12 +66,10 @@ pub record LumaLevels (qp : ℕ) (dc out : List ℤ) (r : Answer) (after : List 
 
 abbrev pub lumaValuesTests : ℕ → List ℤ → List ℤ → List (Test Refusal)
 lumaValuesTests qp levels out =
-    lengthTest 16 levels
-    ∷ lengthTest 16 out
-    ∷ quantizerTest qp
-    ∷ levelTest 16 levels
+    lentTests 16 qp (length levels) (length out)
+    ++ (levelTest 16 levels
     ∷ rangeTest (lumaValues qp levels)
-    ∷ []
+    ∷ [])
 
 pub record LumaValues (qp : ℕ) (levels out : List ℤ) (r : Answer) (after : List ℤ) : Type 0 where
   pub says : Says (said r) (chain (lumaValuesTests qp levels out))
@@ -64,11 +79,9 @@ pub record LumaValues (qp : ℕ) (levels out : List ℤ) (r : Answer) (after : L
 
 abbrev pub chromaLevelsTests : ℕ → List ℤ → List ℤ → List (Test Refusal)
 chromaLevelsTests qp dc out =
-    lengthTest 4 dc
-    ∷ lengthTest 4 out
-    ∷ quantizerTest qp
-    ∷ residualTest 4 dc
-    ∷ []
+    lentTests 4 qp (length dc) (length out)
+    ++ (residualTest 4 dc
+    ∷ [])
 
 pub record ChromaLevels (qp : ℕ) (dc out : List ℤ) (r : Answer) (after : List ℤ) : Type 0 where
   pub says : Says (said r) (chain (chromaLevelsTests qp dc out))
@@ -78,12 +91,10 @@ pub record ChromaLevels (qp : ℕ) (dc out : List ℤ) (r : Answer) (after : Lis
 
 abbrev pub chromaValuesTests : ℕ → List ℤ → List ℤ → List (Test Refusal)
 chromaValuesTests qp levels out =
-    lengthTest 4 levels
-    ∷ lengthTest 4 out
-    ∷ quantizerTest qp
-    ∷ levelTest 4 levels
-    ∷ test (eqb (firstWide (chromaValues qp levels)) 4) (refusal.Range (firstWide (chromaValues qp levels)))
-    ∷ []
+    lentTests 4 qp (length levels) (length out)
+    ++ (levelTest 4 levels
+    ∷ rasterRangeTest 4 (chromaValues qp levels)
+    ∷ [])
 
 pub record ChromaValues (qp : ℕ) (levels out : List ℤ) (r : Answer) (after : List ℤ) : Type 0 where
   pub says : Says (said r) (chain (chromaValuesTests qp levels out))

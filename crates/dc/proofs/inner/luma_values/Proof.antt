@@ -7,7 +7,8 @@ use Rattle.transform.specs.Hadamard.{H4, hadamard}
 use Rattle.transform.proofs.Sides.{kept}
 use Rattle.residual.specs.Order.{inPlaces}
 use Rattle.dc.specs.Dc.{lumaScaled, lumaValues}
-use Rattle.dc.proofs.Values.{places-each, luma-back}
+use Rattle.residual.proofs.Order.{places-each}
+use Rattle.dc.proofs.Values.{luma-back}
 use Rattle.dc.proofs.inner.luma_values.Statement.{statement}
 use Rattle.dc.proofs.inner.luma_values.Tie as tie
 
