@@ -1,4 +1,6 @@
 pub mod Bits
 pub mod Entry
 pub mod Levels
+pub mod Measured
+pub mod Unique
 pub mod Values
