@@ -6,7 +6,7 @@
 use mathlib.Core.Path.{_≡_, sym, ap, subst, _∙_}
 use mathlib.Core.Bool.{Bool, true, false, not, cond}
 use mathlib.Core.List.{List}
-use Prim.Native.Nat.{ℕ, suc, _+_, _-_, _*_, _/_, _%_, _<_, _≤_}
+use Prim.Native.Nat.{ℕ, suc, _-_, _*_, _/_, _%_, _<_, _≤_}
 use native.Mathlib.Nat.{mul-le-mul, le-refl}
 use native.Mathlib.Omega.{arith}
 use lib.Dec.{T, ltb, leb, ltb→lt, nltb→le, leb→le}
@@ -23,8 +23,8 @@ use Rattle.quantizer.specs.declared.Class.{Class}
 use Rattle.quantizer.specs.declared.Class.the-variants as class
 use Rattle.transform.specs.Forward.{C, forward}
 use Rattle.transform.specs.Hadamard.{H4, H2, hadamard}
-use Rattle.transform.specs.Inverse.{back, rounded, inverse}
-use Rattle.transform.specs.Matrix.{Matrix, eachRow, raster, entries}
+use Rattle.transform.specs.Inverse.{rounded, inverse}
+use Rattle.transform.specs.Matrix.{Matrix, raster}
 use Rattle.transform.proofs.Products.{around}
 use Rattle.transform.proofs.Rows.{back-grows}
 use Rattle.transform.proofs.Sides.{forward-around, hadamard-around, H4-symmetric, H2-symmetric}
