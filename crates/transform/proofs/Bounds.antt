@@ -11,7 +11,7 @@ use native.Mathlib.Nat.{mul-le-mul, le-refl}
 use native.Mathlib.Omega.{arith}
 use lib.Dec.{T, ltb, leb, ltb→lt, nltb→le, leb→le}
 use lib.IntN.{ℤ, pos, negsuc}
-use lib.ListN.{length, getD}
+use lib.ListN.{getD}
 use lib.Signed.{shrZ}
 use Rattle.lists.specs.Every.{every}
 use Rattle.lists.proofs.Every.{every-at}
@@ -27,8 +27,8 @@ use Rattle.transform.specs.Inverse.{rounded, inverse}
 use Rattle.transform.specs.Matrix.{Matrix, raster}
 use Rattle.transform.proofs.Products.{around}
 use Rattle.transform.proofs.Rows.{back-grows}
-use Rattle.transform.proofs.Sides.{forward-around, hadamard-around, H4-symmetric, H2-symmetric}
-use Rattle.transform.proofs.Squares.{entries-each, length-entries, raster-within}
+use Rattle.transform.proofs.Sides.{forward-around, hadamard-around, length-forward, H4-symmetric, H2-symmetric}
+use Rattle.transform.proofs.Squares.{entries-each, raster-within}
 use Rattle.transform.proofs.Through.{reach, around-within}
 
 -- ---- forward
@@ -60,7 +60,7 @@ module _ (x : List ℤ) (h : Each 255 x) where
   forward-each =
       each-from 9180 (forward x)
       (λ k l.
-      let m : k < 16 = rw (ap length (forward-around x) ∙ length-entries 4 (around 4 C (raster 4 x))) at l in
+      let m : k < 16 = rw length-forward at l in
       let most = leb→le (mostOf (classAtPlace k)) 9180 (every-at 16 (λ k. leb (mostOf (classAtPlace k)) 9180) tt k m) in
       let found = forward-within k m in
       record { size = omega arith })

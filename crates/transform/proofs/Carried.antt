@@ -28,7 +28,7 @@ use Rattle.transform.specs.Hadamard.{H4, H2, hadamard}
 use Rattle.transform.specs.Matrix.{Line, Matrix, product, raster, entries}
 use Rattle.transform.proofs.Products.{around, Undoes, scaled-at, there-and-back, agree}
 use Rattle.transform.proofs.Squares.{entries-at, entries-same, length-entries}
-use Rattle.transform.proofs.Sides.{forward-around, hadamard-around, H4-symmetric, H2-symmetric}
+use Rattle.transform.proofs.Sides.{forward-around, hadamard-around, length-forward, H4-symmetric, H2-symmetric}
 
 -- ---- one dimension: weights 5, 2, 5, 2, and s = 20
 
@@ -139,9 +139,6 @@ quotients (z ∷ l) h =
     let first = h 0 (omega arith) in
     let rest = quotients l (λ k m. h (suc k) (omega arith)) in
     record { block = first .quotient ∷ rest .block; small = (first .small, rest .small); is = λ i. first .is i ∷ rest .is i }
-
-length-forward : (x : List ℤ) → length (forward x) ≡ 16
-length-forward x = ap length (forward-around x) ∙ length-entries 4 (around 4 C (raster 4 x))
 
 length-carried : (y : List ℤ) → length (carriedBack y) ≡ 16
 length-carried y = ap length (carried-around y) ∙ length-entries 4 (around 4 Back (raster 4 y))

@@ -3,6 +3,7 @@
 --     forward-row, inverse-row, hadamard-row, hadamard-square  over ℤ it is the row through C, the inverse's sums, the row through H, and all of the 2x2
 --     back-local, back-grows                   the inverse's sums look at four numbers, and are four times as large at the most
 --     gathered                                 sixteen numbers, read one by one
+--     rows-each                                bounds of a block's rows
 --     rows-flat                                a block whose rows are f of a block's rows
 -- Assumes nothing.
 use mathlib.Core.Path.{_≡_, refl, sym, ap, _∙_}
@@ -15,9 +16,10 @@ use lib.ListN.{length, getD}
 use mir.Syntax.{w32}
 use Rattle.lists.specs.Tab.{tab}
 use Rattle.lists.proofs.Tab.{getD-tab, tab-of}
+use Rattle.whole.specs.Bounds.{Each}
 use Rattle.whole.proofs.Ring.{Expression, var, con, _⊕_, _⊗_, rings}
 use Rattle.whole.proofs.Steps.{Code, inp, add, sub, shr, each-at}
-use Rattle.whole.proofs.Lists.{gather, ideals, expressions, oks, mosts, sizes}
+use Rattle.whole.proofs.Lists.{gather, each-gather, ideals, expressions, oks, mosts, sizes}
 use Rattle.transform.specs.Block.{row, flat, line, byRow, through}
 use Rattle.transform.specs.Forward.{C}
 use Rattle.transform.specs.Hadamard.{H4, H2, hadamard}
@@ -122,6 +124,14 @@ sixteen = 0 ∷ 1 ∷ 2 ∷ 3 ∷ 4 ∷ 5 ∷ 6 ∷ 7 ∷ 8 ∷ 9 ∷ 10 ∷ 11 
 pub gathered : (l : List ℤ) → length l ≡ 16 → gather sixteen l ≡ l
 unfolding tab
 gathered l e = tab-of 16 (line l) l (pos 0) e (λ k h. refl)
+
+pub rows-each : (B : ℕ) (m : Block) → Each B (flat m) → Each B (row (m .a)) × Each B (row (m .b)) × Each B (row (m .c)) × Each B (row (m .d))
+rows-each B m h = (
+  each-gather B (0 ∷ 1 ∷ 2 ∷ 3 ∷ []) (flat m) h,
+  each-gather B (4 ∷ 5 ∷ 6 ∷ 7 ∷ []) (flat m) h,
+  each-gather B (8 ∷ 9 ∷ 10 ∷ 11 ∷ []) (flat m) h,
+  each-gather B (12 ∷ 13 ∷ 14 ∷ 15 ∷ []) (flat m) h,
+)
 
 -- v is row i of m
 abbrev Row : Block → ℕ → Quad → Type 0
