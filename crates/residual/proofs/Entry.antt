@@ -10,7 +10,7 @@ use Rattle.lists.specs.Chain.{Verdict, chain, pass, stop, written}
 use Rattle.lists.proofs.Chain.{ExactlyIf, chain-exactly-if}
 use Rattle.whole.specs.Bounds.{Each}
 use Rattle.whole.specs.Range.{firstOutside}
-use Rattle.whole.proofs.Range.{outside-le, none-each}
+use Rattle.whole.proofs.Range.{outside-le, none-each, each-none}
 use Rattle.refusal.specs.Number.{said}
 use Rattle.refusal.specs.declared.Answer.{Answer}
 use Rattle.refusal.specs.declared.Refusal.{Refusal}
@@ -29,6 +29,10 @@ use Rattle.residual.proofs.Order.{length-zigzag, zigzag-each}
 -- a list whose first wide number is its end has sixteen-bit numbers only
 pub wide-each : (l : List ℤ) → length l ≤ firstWide l → Each 32768 l
 wide-each l h = none-each (negsuc 32767) (pos 32767) l 32768 tt tt h
+
+-- and back, at 32767
+pub wide-none : (l : List ℤ) → Each 32767 l → firstWide l ≡ length l
+wide-none l h = each-none (negsuc 32767) (pos 32767) l 32767 tt tt h
 
 -- ---- levels
 

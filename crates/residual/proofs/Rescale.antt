@@ -1,6 +1,6 @@
 -- Laws of the scales.
 --     by-class       sixteen entries, one for each class, in the order of the places
---     scale-small    a scale with its period's power of two
+--     scale-small    a scale times a power of two
 --     scaled-block   the scaling rule at k = 0: a level times its scale
 --     scalesOf, scales-each, rescaled-by     the sixteen scales, their bound, and that levels times them are the rescaled numbers
 -- Assumes nothing.
@@ -30,8 +30,8 @@ pub by-class : {X : Type 0} (f : Class → X) (a b c : X) → a ≡ f A → b �
 unfolding tab
 by-class f a b c p q r = rw (p, q, r)
 
-pub scale-small : (qp : ℕ) → qp ≤ highest → (class : Class) → vOf (remainderOf qp) class * 2 ^ periodOf qp ≤ 7424
-scale-small qp h class = mul-le-mul (v-small (remainderOf qp) (omega arith) class) (pow-mono {i = periodOf qp} {j = 8} (omega arith))
+pub scale-small : (qp power : ℕ) → power ≤ 8 → (class : Class) → vOf (remainderOf qp) class * 2 ^ power ≤ 7424
+scale-small qp power h class = mul-le-mul (v-small (remainderOf qp) (omega arith) class) (pow-mono {i = power} {j = 8} h)
 
 -- x times v, times 2^p, is x times the scale
 pub scaled-block : (p v : ℕ) (x : ℤ) → x *ℤ pos (v * 2 ^ p) ≡ scaledBy 0 p (x *ℤ pos v)
@@ -44,7 +44,7 @@ abbrev pub scalesOf : ℕ → List ℤ
 scalesOf qp = tab 16 (λ place. pos (vAt qp place * 2 ^ periodOf qp))
 
 pub scales-each : (qp : ℕ) → qp ≤ highest → Each 7424 (scalesOf qp)
-scales-each qp h = each-tab 7424 16 _ (λ place l. record { size = scale-small qp h (classAtPlace place) })
+scales-each qp h = each-tab 7424 16 _ (λ place l. record { size = scale-small qp (periodOf qp) (omega arith) (classAtPlace place) })
 
 pub rescaled-by : (qp : ℕ) (levels : List ℤ) → tab 16 (λ place. getD levels place (pos 0) *ℤ getD (scalesOf qp) place (pos 0)) ≡ rescaled qp levels
 unfolding rescaled

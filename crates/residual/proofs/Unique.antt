@@ -12,6 +12,8 @@ use Rattle.residual.proofs.rebuild.Kinds as rebuild
 use Rattle.residual.proofs.rebuild.Reads as rebuild-reads
 use Rattle.residual.proofs.rebuild_with_dc.Kinds as rebuild-with-dc
 use Rattle.residual.proofs.rebuild_with_dc.Reads as rebuild-with-dc-reads
+use Rattle.residual.proofs.inner.scale.Kinds as scale
+use Rattle.residual.proofs.inner.scale.Reads as scale-reads
 use Rattle.residual.proofs.inner.third.Kinds as third
 use Rattle.residual.proofs.inner.third.Reads as third-reads
 use Rattle.residual.proofs.inner.level.Kinds as level
@@ -28,6 +30,9 @@ use Rattle.residual.proofs.inner.rescaled.Kinds as rescaled
 use Rattle.residual.proofs.inner.rescaled.Reads as rescaled-reads
 use Rattle.residual.proofs.inner.samples.Kinds as samples
 use Rattle.residual.proofs.inner.samples.Reads as samples-reads
+
+pub scale-unique : Unique 0 scale.ps scale.r scale-reads.Learnt (Unit {0}) (λ κs e. tt)
+scale-unique κs a x y e f p q = (p ∙ sym q, refl)
 
 pub third-unique : Unique 0 third.ps third.r third-reads.Learnt (Unit {0}) (λ κs e. tt)
 third-unique κs a x y e f p q = (p ∙ sym q, refl)

@@ -27,13 +27,13 @@ pub(crate) fn multipliers(quantizer: Quantizer) -> [u32; 16]
     [a, c, a, c, c, b, c, b, a, c, a, c, c, b, c, b]
 }
 
-// The scale of a class, with the period's power of two.
-fn scale(quantizer: Quantizer, class: Class) -> i32
-    requires { ⌜ quantizer .qp ≤ highest ⌝ }
-    ensures { λ r. ⌜ r ≡ pos (vOf (remainderOf (quantizer .qp)) class * 2 ^ periodOf (quantizer .qp)) ⌝ }
+// The scale of a class, times a power of two: the period's for a block, a smaller one for luma DC.
+pub fn scale(quantizer: Quantizer, class: Class, power: u8) -> i32
+    requires { ⌜ power ≤ 8 ⌝ }
+    ensures { λ r. ⌜ r ≡ pos (vOf (remainderOf (quantizer .qp)) class * 2 ^ power) ⌝ }
 {
     let v = quantizer.v(class) as u32;
-    (v << quantizer.period()) as i32
+    (v << power) as i32
 }
 
 // The scales of the sixteen places.
@@ -41,9 +41,10 @@ pub(crate) fn scales(quantizer: Quantizer) -> [i32; 16]
     requires { ⌜ quantizer .qp ≤ highest ⌝ }
     ensures { λ r. ⌜ r ≡ tab 16 (λ place. pos (vAt (quantizer .qp) place * 2 ^ periodOf (quantizer .qp))) ⌝ }
 {
-    let a = scale(quantizer, Class::A);
-    let b = scale(quantizer, Class::B);
-    let c = scale(quantizer, Class::C);
+    let period = quantizer.period();
+    let a = scale(quantizer, Class::A, period);
+    let b = scale(quantizer, Class::B, period);
+    let c = scale(quantizer, Class::C, period);
     [a, c, a, c, c, b, c, b, a, c, a, c, c, b, c, b]
 }
 

@@ -1,0 +1,69 @@
+-- Laws of the DC levels.
+--     mf-small, f-small                what a level's code asks for, over s
+--     luma-around, chroma-around       T of DC values within 4080
+--     luma-by, chroma-by               the levels over one multiplier, what is added and the power of two
+--     luma-levels-each                 luma DC levels fit 16 bits: none is above 6528
+-- Assumes nothing.
+use mathlib.Core.Path.{_≡_, refl, sym, ap, subst, _∙_}
+use mathlib.Core.List.{List}
+use Prim.Native.Nat.{ℕ, _+_, _*_, _^_, _<_, _≤_}
+use native.Mathlib.Omega.{arith}
+use lib.IntN.{ℤ, pos}
+use lib.ListN.{getD, replicate, getD-replicate}
+use Rattle.lists.specs.Tab.{tab}
+use Rattle.lists.proofs.Tab.{tab-same}
+use Rattle.whole.specs.Bounds.{Within, Each}
+use Rattle.whole.proofs.Lists.{each-less, each-tab}
+use Rattle.whole.proofs.Steps.{each-at}
+use Rattle.transform.specs.Hadamard.{H4, H2, hadamard}
+use Rattle.transform.proofs.Bounds.{hadamard4-each, hadamard2-each}
+use Rattle.quantizer.specs.Range.{periodOf, remainderOf}
+use Rattle.quantizer.specs.Tables.{zigzagOf}
+use Rattle.quantizer.specs.declared.Class.the-variants.{A}
+use Rattle.quantizer.proofs.Tables as tables
+use Rattle.residual.specs.Order.{inZigzag}
+use Rattle.residual.specs.Quantize.{levelBy, levelOf, fOf, qOf}
+use Rattle.residual.proofs.Quantize.{third-small, level-within}
+use Rattle.dc.specs.Dc.{mfA, quantizedDc, lumaLevels, chromaLevels}
+
+pub mf-small : (qp : ℕ) → mfA qp ≤ 13107
+mf-small qp = tables.mf-small (remainderOf qp) (omega arith) A
+
+pub luma-around : (dc : List ℤ) → Each 4080 dc → Each 65280 (hadamard 4 H4 dc)
+luma-around dc h = hadamard4-each 4080 dc h
+
+pub chroma-around : (dc : List ℤ) → Each 4080 dc → Each 65280 (hadamard 2 H2 dc)
+chroma-around dc h = each-less 16320 65280 (hadamard 2 H2 dc) (hadamard2-each 4080 dc h) tt
+
+-- ---- as the code has them
+
+module _ (qp : ℕ) (dc : List ℤ) where
+  pub luma-by : (mf f q : ℕ) (t : List ℤ) → mf ≡ mfA qp → f ≡ 4 * fOf (periodOf qp) → q ≡ qOf (periodOf qp) + 2 → t ≡ hadamard 4 H4 dc
+      → inZigzag (tab 16 (λ k. levelBy (getD (replicate 16 mf) k 0) f q (getD t k (pos 0)))) ≡ lumaLevels qp dc
+  unfolding lumaLevels quantizedDc
+  luma-by mf f q t m e d h =
+      ap inZigzag
+      (tab-same 16 (λ k. levelBy (getD (replicate 16 mf) k 0) f q (getD t k (pos 0))) (λ k. levelBy mf f q (getD t k (pos 0)))
+      (λ k l. ap (λ (n : ℕ). levelBy n f q (getD t k (pos 0))) (getD-replicate 16 k mf 0 l))
+      ∙ (λ i. tab 16 (λ k. levelBy (m i) (e i) (d i) (getD (h i) k (pos 0)))))
+
+  pub chroma-by : (mf f q : ℕ) (t : List ℤ) → mf ≡ mfA qp → f ≡ 2 * fOf (periodOf qp) → q ≡ qOf (periodOf qp) + 1 → t ≡ hadamard 2 H2 dc
+      → tab 4 (λ k. levelBy mf f q (getD t k (pos 0))) ≡ chromaLevels qp dc
+  unfolding chromaLevels quantizedDc
+  chroma-by mf f q t m e d h = λ i. tab 4 (λ k. levelBy (m i) (e i) (d i) (getD (h i) k (pos 0)))
+
+-- ---- how large they are
+
+quantized-each : (n s K qp : ℕ) (t : List ℤ) → ((y : ℤ) → Within 65280 y → Within K (levelOf s (periodOf qp) (mfA qp) y)) → Each 65280 t → Each K (quantizedDc n s qp t)
+unfolding quantizedDc
+quantized-each n s K qp t small h = each-tab K n _ (λ k l. small (getD t k (pos 0)) (each-at 65280 t h k))
+
+zigzag-each : (B : ℕ) (l : List ℤ) → Each B l → Each B (inZigzag l)
+unfolding inZigzag
+zigzag-each B l h = each-tab B 16 _ (λ k m. each-at B l h (zigzagOf k))
+
+pub luma-levels-each : (qp : ℕ) (dc : List ℤ) → Each 4080 dc → Each 6528 (lumaLevels qp dc)
+unfolding lumaLevels
+luma-levels-each qp dc h =
+    zigzag-each 6528 (quantizedDc 16 2 qp (hadamard 4 H4 dc))
+    (quantized-each 16 2 6528 qp (hadamard 4 H4 dc) (λ y b. level-within 2 (periodOf qp) (mfA qp) 65280 13107 6528 y b (mf-small qp) tt) (luma-around dc h))

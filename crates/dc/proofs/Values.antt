@@ -1,0 +1,85 @@
+-- Laws of the DC values.
+--     products-within                   numbers times the scale of class a, over the power of two
+--     luma-back, chroma-back            g of levels of 16 bits
+--     scaled-zero, scaled-one, scaled-high, luma-scaled-by     the scaling rule at k = 2, as the code has it: periods 0, 1 and from 2 on
+--     chroma-scaled-by                  chroma's plain shift
+-- Assumes nothing.
+use mathlib.Core.Path.{_≡_, refl, sym, ap, subst, _∙_}
+use mathlib.Core.List.{List}
+use Prim.Native.Nat.{ℕ, _+_, _-_, _*_, _^_, _<_, _≤_}
+use native.Mathlib.Nat.{mul-le-mul}
+use native.Mathlib.Omega.{arith}
+use borrow.Author.Tests.{le-leb}
+use lib.IntN.{ℤ, pos, natAbs, _+ℤ_, _*ℤ_, +ℤ-idr}
+use lib.ListN.{getD}
+use lib.Pow.{pow-mono}
+use lib.Signed.{shrZ}
+use Rattle.lists.specs.Tab.{tab}
+use Rattle.whole.specs.Bounds.{Within, Each}
+use Rattle.whole.proofs.Bound.{abs-mul}
+use Rattle.whole.proofs.Laws.{*ℤ-assoc, shr-one}
+use Rattle.whole.proofs.Lists.{each-tab}
+use Rattle.whole.proofs.Steps.{each-at}
+use Rattle.transform.specs.Hadamard.{H4, H2, hadamard}
+use Rattle.transform.proofs.Bounds.{hadamard4-each, hadamard2-each}
+use Rattle.quantizer.specs.Range.{highest, periodOf, remainderOf}
+use Rattle.quantizer.specs.Tables.{stepOf}
+use Rattle.quantizer.specs.declared.Class.the-variants.{A}
+use Rattle.quantizer.proofs.Tables.{v-small}
+use Rattle.residual.specs.Order.{inPlaces}
+use Rattle.residual.specs.Rescale.{scaledBy}
+use Rattle.dc.specs.Dc.{vA, lumaScaled, chromaScaled}
+
+-- ---- bounds
+
+-- numbers within B and a power up to n
+pub products-within : (B n qp power : ℕ) (g : List ℤ) {scale : ℤ} → scale ≡ pos (vA qp * 2 ^ power) → power ≤ n → Each B g
+    → (k : ℕ) → Within (B * (29 * 2 ^ n)) (getD g k (pos 0) *ℤ scale)
+products-within B n qp power g e h b k = record {
+  size = subst (λ (m : ℕ). m ≤ B * (29 * 2 ^ n)) (sym (ap (λ (z : ℤ). natAbs (getD g k (pos 0) *ℤ z)) e ∙ abs-mul (getD g k (pos 0)) (pos (vA qp * 2 ^ power))))
+      (mul-le-mul (each-at B g b k .size) (mul-le-mul (v-small (remainderOf qp) (omega arith) A) (pow-mono {i = power} {j = n} h)));
+}
+
+pub luma-back : (levels : List ℤ) → Each 32768 levels → Each 524288 (hadamard 4 H4 levels)
+luma-back levels h = hadamard4-each 32768 levels h
+
+pub chroma-back : (levels : List ℤ) → Each 32768 levels → Each 131072 (hadamard 2 H2 levels)
+chroma-back levels h = hadamard2-each 32768 levels h
+
+pub places-each : (B : ℕ) (l : List ℤ) → Each B l → Each B (inPlaces l)
+unfolding inPlaces
+places-each B l h = each-tab B 16 _ (λ k m. each-at B l h (stepOf k))
+
+-- ---- luma
+
+module _ (v : ℕ) (x : ℤ) where
+  pub scaled-zero : shrZ (x *ℤ pos (v * 2 ^ 0) +ℤ pos 2) (2 ^ 2) ≡ scaledBy 2 0 (x *ℤ pos v)
+  unfolding scaledBy
+  scaled-zero = let e : v * 1 ≡ v = omega arith in ap (λ (n : ℕ). shrZ (x *ℤ pos n +ℤ pos 2) 4) e
+
+  pub scaled-one : shrZ (x *ℤ pos (v * 2 ^ 0) +ℤ pos 1) (2 ^ 1) ≡ scaledBy 2 1 (x *ℤ pos v)
+  unfolding scaledBy
+  scaled-one = let e : v * 1 ≡ v = omega arith in ap (λ (n : ℕ). shrZ (x *ℤ pos n +ℤ pos 1) 2) e
+
+  pub scaled-high : (p : ℕ) → 2 ≤ p → shrZ (x *ℤ pos (v * 2 ^ (p - 2)) +ℤ pos 0) (2 ^ 0) ≡ scaledBy 2 p (x *ℤ pos v)
+  unfolding scaledBy
+  scaled-high p h =
+      rw (le-leb 2 p h)
+      (shr-one (x *ℤ pos (v * 2 ^ (p - 2)) +ℤ pos 0) ∙ +ℤ-idr (x *ℤ pos (v * 2 ^ (p - 2))) ∙ sym (*ℤ-assoc x (pos v) (pos (2 ^ (p - 2)))))
+
+-- what one arm of the code's match leaves
+pub luma-scaled-by : (qp power : ℕ) (g : List ℤ) (round : ℤ) (divisor : ℕ) {scale : ℤ} → scale ≡ pos (vA qp * 2 ^ power)
+    → ((x : ℤ) → shrZ (x *ℤ pos (vA qp * 2 ^ power) +ℤ round) divisor ≡ scaledBy 2 (periodOf qp) (x *ℤ pos (vA qp)))
+    → tab 16 (λ k. shrZ (getD g k (pos 0) *ℤ scale +ℤ round) divisor) ≡ lumaScaled qp g
+unfolding lumaScaled
+luma-scaled-by qp power g round divisor e h =
+    (λ i. tab 16 (λ k. shrZ (getD g k (pos 0) *ℤ e i +ℤ round) divisor)) ∙ (λ i. tab 16 (λ k. h (getD g k (pos 0)) i))
+
+-- ---- chroma
+
+pub chroma-scaled-by : (qp : ℕ) (g : List ℤ) {scale : ℤ} → scale ≡ pos (vA qp * 2 ^ periodOf qp)
+    → tab 4 (λ k. shrZ (getD g k (pos 0) *ℤ scale +ℤ pos 0) (2 ^ 1)) ≡ chromaScaled qp g
+unfolding chromaScaled
+chroma-scaled-by qp g e =
+    (λ i. tab 4 (λ k. shrZ (getD g k (pos 0) *ℤ e i +ℤ pos 0) 2))
+    ∙ λ i. tab 4 (λ k. shrZ ((+ℤ-idr (getD g k (pos 0) *ℤ pos (vA qp * 2 ^ periodOf qp)) ∙ sym (*ℤ-assoc (getD g k (pos 0)) (pos (vA qp)) (pos (2 ^ periodOf qp)))) i) 2)

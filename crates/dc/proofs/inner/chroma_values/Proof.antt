@@ -1,0 +1,53 @@
+-- `dc::inner::chroma_values` meets its contract: through the 2x2 H, and the plain shift. Assumes nothing.
+use borrow.Author.Needs.{needs}
+use mathlib.Core.List.{List}
+use mathlib.Core.Path.{_≡_, ap, _∙_}
+use Prim.Native.Nat.{ℕ, _*_, _^_}
+use native.Mathlib.Omega.{arith}
+use lib.IntN.{ℤ, pos}
+use mir.Syntax.{w32}
+use mir.Val.{SFits, toZ, ofZ}
+use mir.ValLaws.{toZ-ofZ}
+use Rattle.quantizer.specs.Range.{periodOf}
+use Rattle.transform.proofs.Sides.{kept}
+use Rattle.dc.specs.Dc.{vA, chromaScaled, chromaValues}
+use Rattle.dc.proofs.Values.{products-within, chroma-back, chroma-scaled-by}
+use Rattle.dc.proofs.inner.chroma_values.Statement.{statement}
+use Rattle.dc.proofs.inner.chroma_values.Tie as tie
+
+-- the scale, as it is read back
+scale-is : (c : tie.After-scale) → toZ w32 (ofZ w32 (c .scale .result)) ≡ pos (vA (c .before .before .before .args .quantizer .qp) * 2 ^ periodOf (c .before .before .before .args .quantizer .qp))
+scale-is c =
+    let f : SFits w32 (c .scale .result) = search needs in
+    let qp = c .before .before .before .args .quantizer .qp in
+    toZ-ofZ w32 (c .scale .result) f ∙ c .scale .ensures ∙ ap (λ (p : ℕ). pos (vA qp * 2 ^ p)) (c .before .period .ensures)
+
+hadamard2-requires : tie.Need-hadamard2-requires
+hadamard2-requires c κs = search needs
+
+period-requires : tie.Need-period-requires
+period-requires c κs = search needs
+
+scale-requires : tie.Need-scale-requires
+scale-requires c κs = search needs
+
+scaled-four-requires : tie.Need-scaled-four-requires
+scaled-four-requires c κs =
+    let s = c .before .before .before in
+    let qp = s .args .quantizer .qp in
+    let g = kept 131072 (c .before .before .hadamard2 .ensures) (chroma-back (s .args .levels) (s .pre .1)) in
+    ((λ k l. products-within 131072 8 qp (periodOf qp) (c .before .before .hadamard2 .result) (scale-is c) (omega arith) g k), record { size = omega arith }, omega arith)
+
+returns : tie.Need-returns
+unfolding chromaValues
+returns c =
+    let s = c .before .before .before .before in
+    let qp = s .args .quantizer .qp in
+    c .scaled-four .ensures
+    ∙ chroma-scaled-by qp (c .before .before .before .hadamard2 .result) (scale-is (c .before))
+    ∙ ap (chromaScaled qp) (c .before .before .before .hadamard2 .ensures)
+
+pub chroma-values-spec : {M : Type 1} → statement M
+chroma-values-spec =
+    tie.close
+    (tie.spec hadamard2-requires period-requires scale-requires scaled-four-requires returns)

@@ -1,0 +1,2 @@
+pub mod Dc
+pub mod Entry

@@ -1,0 +1,120 @@
+// Levels and values of the DC paths over arrays by value, for callers that have tested their numbers.
+ghost use mathlib.Core.Path.{_≡_};
+ghost use Prim.Native.Nat.{ℕ, _+_, _*_, _^_, _<_, _≤_};
+ghost use lib.IntN.{ℤ, pos, _+ℤ_, _*ℤ_};
+ghost use lib.ListN.{getD};
+ghost use lib.Signed.{shrZ};
+ghost use Rattle.lists.specs.Tab.{tab};
+ghost use Rattle.whole.specs.Bounds.{Within, Each};
+ghost use Rattle.quantizer.specs.Range.{highest};
+ghost use Rattle.residual.specs.Quantize.{levelBy};
+ghost use Rattle.dc.specs.Dc.{lumaLevels, lumaScaled, lumaValues, chromaLevels, chromaValues};
+use quantizer::Class;
+use quantizer::Quantizer;
+
+// The levels of sixteen luma DC values, in zigzag order.
+pub fn luma_levels(quantizer: Quantizer, dc: [i32; 16]) -> [i32; 16]
+    requires { ⌜ (quantizer .qp ≤ highest) × (Each 4080 dc) ⌝ }
+    ensures { λ r. ⌜ r ≡ lumaLevels (quantizer .qp) dc ⌝ }
+{
+    let t = transform::inner::hadamard4(dc);
+    let period = quantizer.period();
+    let mf = quantizer.mf(Class::A) as u32;
+    let f = residual::inner::third(period);
+    let q = 15 + (period as u32);
+    residual::inner::in_zigzag(residual::inner::levels_of(t, [mf; 16], 4 * f, q + 2))
+}
+
+// Four levels, all by one multiplier.
+fn levels_of_four(t: [i32; 4], mf: u32, f: u32, q: u32) -> [i32; 4]
+    requires { ⌜ (Each 65280 t) × (mf ≤ 13107) × (f ≤ 11184810) × (q ≤ 25) ⌝ }
+    ensures { λ r. ⌜ r ≡ tab 4 (λ k. levelBy mf f q (getD t k (pos 0))) ⌝ }
+{
+    let mut levels = [0i32; 4];
+    for k in 0usize..4 {
+        levels[k] = residual::inner::level(t[k], mf, f, q);
+    }
+    levels
+}
+
+// The levels of four chroma DC values, in raster order.
+pub fn chroma_levels(quantizer: Quantizer, dc: [i32; 4]) -> [i32; 4]
+    requires { ⌜ (quantizer .qp ≤ highest) × (Each 4080 dc) ⌝ }
+    ensures { λ r. ⌜ r ≡ chromaLevels (quantizer .qp) dc ⌝ }
+{
+    let t = transform::inner::hadamard2(dc);
+    let period = quantizer.period();
+    let mf = quantizer.mf(Class::A) as u32;
+    let f = residual::inner::third(period);
+    let q = 15 + (period as u32);
+    levels_of_four(t, mf, 2 * f, q + 1)
+}
+
+// One rescaled number: a product, rounded and shifted down.
+fn scaled(g: i32, scale: i32, round: i32, shift: u32) -> i32
+    requires { ⌜ (Within 973078528 (g *ℤ scale)) × (Within 2 round) × (shift ≤ 2) ⌝ }
+    ensures { λ r. ⌜ r ≡ shrZ (g *ℤ scale +ℤ round) (2 ^ shift) ⌝ }
+{
+    (g * scale + round) >> shift
+}
+
+// The same of sixteen numbers, for luma.
+fn scaled_sixteen(g: [i32; 16], scale: i32, round: i32, shift: u32) -> [i32; 16]
+    requires { ⌜ ((k : ℕ) → k < 16 → Within 973078528 (getD g k (pos 0) *ℤ scale)) × (Within 2 round) × (shift ≤ 2) ⌝ }
+    ensures { λ r. ⌜ r ≡ tab 16 (λ k. shrZ (getD g k (pos 0) *ℤ scale +ℤ round) (2 ^ shift)) ⌝ }
+{
+    let mut values = [0i32; 16];
+    for k in 0usize..16 {
+        values[k] = scaled(g[k], scale, round, shift);
+    }
+    values
+}
+
+// And of four, for chroma.
+fn scaled_four(g: [i32; 4], scale: i32, round: i32, shift: u32) -> [i32; 4]
+    requires { ⌜ ((k : ℕ) → k < 4 → Within 973078528 (getD g k (pos 0) *ℤ scale)) × (Within 2 round) × (shift ≤ 2) ⌝ }
+    ensures { λ r. ⌜ r ≡ tab 4 (λ k. shrZ (getD g k (pos 0) *ℤ scale +ℤ round) (2 ^ shift)) ⌝ }
+{
+    let mut values = [0i32; 4];
+    for k in 0usize..4 {
+        values[k] = scaled(g[k], scale, round, shift);
+    }
+    values
+}
+
+// Sixteen numbers that came through H, rescaled: below period 2 the shift is down, and rounds.
+fn luma_scaled(quantizer: Quantizer, g: [i32; 16]) -> [i32; 16]
+    requires { ⌜ (quantizer .qp ≤ highest) × (Each 524288 g) ⌝ }
+    ensures { λ r. ⌜ r ≡ lumaScaled (quantizer .qp) g ⌝ }
+{
+    let period = quantizer.period();
+    match period {
+        0 => scaled_sixteen(g, residual::inner::scale(quantizer, Class::A, 0), 2, 2),
+        1 => scaled_sixteen(g, residual::inner::scale(quantizer, Class::A, 0), 1, 1),
+        _ => scaled_sixteen(
+            g,
+            residual::inner::scale(quantizer, Class::A, period - 2),
+            0,
+            0,
+        ),
+    }
+}
+
+// The luma DC values of sixteen levels in zigzag order, in raster order.
+pub fn luma_values(quantizer: Quantizer, levels: [i32; 16]) -> [i32; 16]
+    requires { ⌜ (quantizer .qp ≤ highest) × (Each 32768 levels) ⌝ }
+    ensures { λ r. ⌜ r ≡ lumaValues (quantizer .qp) levels ⌝ }
+{
+    let g = transform::inner::hadamard4(residual::inner::in_places(levels));
+    luma_scaled(quantizer, g)
+}
+
+// The chroma DC values of four levels, both in raster order.
+pub fn chroma_values(quantizer: Quantizer, levels: [i32; 4]) -> [i32; 4]
+    requires { ⌜ (quantizer .qp ≤ highest) × (Each 32768 levels) ⌝ }
+    ensures { λ r. ⌜ r ≡ chromaValues (quantizer .qp) levels ⌝ }
+{
+    let g = transform::inner::hadamard2(levels);
+    let scale = residual::inner::scale(quantizer, Class::A, quantizer.period());
+    scaled_four(g, scale, 0, 1)
+}
