@@ -2,7 +2,9 @@ pub mod Chain
 pub mod Every
 pub mod First
 pub mod Fold
+pub mod Keys
 pub mod Pairs
 pub mod Parts
 pub mod Stores
 pub mod Tab
+pub mod Total

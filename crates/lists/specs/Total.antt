@@ -1,0 +1,7 @@
+-- A sum over a size: what a loop leaves that adds f 0, f 1, .. in turn. Assumes nothing.
+use Prim.Native.Nat.{ℕ, zero, suc, _+_}
+
+-- f 0 + f 1 + .. + f (n - 1)
+unfoldable pub total : ℕ → (ℕ → ℕ) → ℕ
+total zero f = 0
+total (suc n) f = total n f + f n
