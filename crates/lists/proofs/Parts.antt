@@ -1,16 +1,19 @@
 -- Lists that grow from the front, by stores and by lent parts that come home, and parts pasted into a list.
 --     Growing: growing-none, growing-more, growing-part, growing-done       the first n elements are v
 --     Pasting: pasting-none, pasting-more, pasting-done                     stores from place a on, the others as they were
---     parts-none, parts-more, part-home                                     parts one behind the other; a lent part, as a paste
+--     parts-none, parts-more, length-parts, parts-at                        parts one behind the other; where all are of one size
+--     part-home                                                             a lent part that comes home, as a paste
 -- Assumes nothing.
 use mathlib.Core.Path.{_≡_, refl, sym, ap, _∙_}
 use mathlib.Core.List.{List, [], _∷_, _++_, append-assoc}
-use Prim.Native.Nat.{ℕ, zero, suc, _+_, _-_, _<_, _≤_, zero-le}
+use mathlib.Core.Logic.{⊎-elim}
+use Prim.Native.Nat.{ℕ, zero, suc, _+_, _-_, _*_, _<_, _≤_, zero-le}
+use native.Mathlib.Nat.{not-suc-le-zero, le-of-suc-le-suc, eq-or-lt-of-le, mul-le-mul-left}
 use native.Mathlib.Numerals.{add-one}
 use native.Mathlib.Omega.{arith}
 use borrow.Rule.Slice.PartMut.{putMid, postOf, post-is}
-use lib.ListN.{length, set, take, drop, getD, length-append, length-set}
-use lib.Seq.{take-suc-set, take-all, take-at, length-take-le, paste, paste-zero, paste-suc}
+use lib.ListN.{length, set, take, drop, getD, length-append, length-set, length-drop}
+use lib.Seq.{take-suc-set, take-all, take-at, take-append-le, drop-at, drop-append-le, length-take-le, paste, paste-zero, paste-suc}
 use Rattle.lists.specs.Parts.{parts, pasted}
 
 module _ {A : Type 0} where
@@ -53,6 +56,29 @@ module _ {A : Type 0} where
   pub parts-more : (n : ℕ) (f : ℕ → List A) → parts (n + 1) f ≡ parts n f ++ f n
   unfolding parts
   parts-more n f = rw add-one
+
+  module _ (size : ℕ) (f : ℕ → List A) where
+    pub length-parts : (n : ℕ) → ((k : ℕ) → k < n → length (f k) ≡ size) → length (parts n f) ≡ size * n
+    unfolding parts
+    length-parts zero e = omega arith
+    length-parts (suc n) e = omega (arith, length-append (parts n f) (f n), length-parts n (λ k l. e k (omega arith)), e n (omega arith))
+
+    -- part m is read from its place
+    pub parts-at : (n m : ℕ) → ((k : ℕ) → k < n → length (f k) ≡ size) → m < n → take size (drop (size * m) (parts n f)) ≡ f m
+    unfolding parts
+    parts-at zero m e h = absurd (not-suc-le-zero h)
+    parts-at (suc n) m e h =
+        let d : (k : ℕ) → k < n → length (f k) ≡ size = λ k l. e k (omega arith) in
+        let long = length-parts n d in
+        ⊎-elim
+        (λ (q : m ≡ n).
+        rw q (ap (take size) (drop-at (parts n f) (f n) (size * n) long) ∙ take-all size (f n) (omega (arith, e n (omega arith)))))
+        (λ (l : m < n).
+        let r : size * m + size ≤ length (parts n f) = omega (arith, long, mul-le-mul-left size l) in
+        ap (take size) (drop-append-le (size * m) (parts n f) (f n) (omega arith))
+        ∙ take-append-le size (drop (size * m) (parts n f)) (f n) (simp length-drop (omega arith))
+        ∙ parts-at n m d l)
+        (eq-or-lt-of-le (le-of-suc-le-suc h))
 
   -- ---- pasting
 
