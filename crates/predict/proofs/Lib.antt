@@ -1,0 +1,5 @@
+pub mod Area
+pub mod Least
+pub mod Masked
+pub mod Outcome
+pub mod Places
