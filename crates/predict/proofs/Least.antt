@@ -6,10 +6,11 @@
 use mathlib.Core.Path.{_≡_, refl, sym, ap, subst, _∙_}
 use mathlib.Core.Bool.{Bool, true, false, cond}
 use mathlib.Core.List.{List}
-use mathlib.Core.Logic.{⊎-elim}
 use Prim.Native.Nat.{ℕ, zero, suc, _<_, _≤_}
-use native.Mathlib.Nat.{eq-or-lt-of-le, le-of-suc-le-suc, not-suc-le-zero}
+use native.Mathlib.Nat.{not-suc-le-zero}
+use native.Mathlib.Numerals.{add-one}
 use native.Mathlib.Omega.{arith}
+use borrow.Author.Count.{below-more}
 use borrow.Author.Tests.{ltb-true, ltb-false}
 use lib.Dec.{ltb}
 use lib.ListN.{getD}
@@ -33,7 +34,7 @@ Good n cost (at m s) = Least n cost m s
 
 -- what holds of each number below n, and of n
 more : (P : ℕ → Type 0) (n : ℕ) → ((j : ℕ) → j < n → P j) → P n → (j : ℕ) → j < suc n → P j
-more P n h p j l = ⊎-elim (λ e. subst P (sym e) p) (λ k. h j k) (eq-or-lt-of-le (le-of-suc-le-suc l))
+more P n h p j l = below-more P n h p j (rw add-one l)
 
 clash : {A : Type 0} {d : ℕ} {x : Cost} → x ≡ is d → x ≡ no → A
 clash p q = let z : _≡_ {A = ℕ} 0 1 = cc in absurd (omega arith)

@@ -1,6 +1,7 @@
 -- What the tests of the entry points come to, case by case, and when they refuse.
 --     predict-refuses-exactly-if, choose-refuses-exactly-if
 --     same-chosen     an answer is known by what it says and what it brings
+--     same-choice     a choice is known by what it picks
 -- Assumes nothing.
 use mathlib.Core.Path.{_≡_, refl, sym, ap, subst, _∙_}
 use mathlib.Core.Bool.{true, false}
@@ -19,7 +20,7 @@ use Rattle.refusal.specs.declared.Answer.the-variants as answer
 use Rattle.predict.specs.declared.Chosen.{Chosen}
 use Rattle.predict.specs.declared.Chosen.the-variants.{Mode, Refused}
 use Rattle.predict.specs.declared.inner.Choice.{Choice}
-use Rattle.predict.specs.Samples.{mask}
+use Rattle.predict.specs.Samples.{Round, mask}
 use Rattle.predict.specs.Rules.{samplesOf, predicted, permitted}
 use Rattle.predict.specs.Choice.{Best, nothing, at, chosen}
 use Rattle.predict.specs.Entry.{predictTests, Predicts, chooseTests, saidChosen, bestIn, bestSamples, Chooses, Picks}
@@ -58,6 +59,14 @@ same-chosen (Mode m s) (Mode k u) e g = let p : m ≡ k = cc in let q : s ≡ u 
 same-chosen (Mode m s) (Refused r) e g = cc
 same-chosen (Refused r) (Mode k u) e g = cc
 same-chosen (Refused r) (Refused t) e g = let p : r ≡ t = cc in ap Refused p
+
+pub same-choice : {r : Round} {block : List ℕ} (x y : Choice) → Picks r block x → Picks r block y → x ≡ y
+same-choice {r} {block} x y p q =
+    let e : at (x .mode) (x .sad) ≡ at (y .mode) (y .sad) = p .best ∙ sym (q .best) in
+    let m : x .mode ≡ y .mode = cc in
+    let s : x .sad ≡ y .sad = cc in
+    let l : x .prediction ≡ y .prediction = p .prediction ∙ ap (λ (k : ℕ). samplesOf (predicted r k)) m ∙ sym (q .prediction) in
+    λ i. record { mode = m i; sad = s i; prediction = l i }
 
 module _ (n : List ℕ) (f : ℕ) (block o : List ℕ) where
   pub choose-refuses-exactly-if : (r : Chosen) (after : List ℕ) → Chooses n f block o r after → ExactlyIf (chooseTests n f block o) (saidChosen r)

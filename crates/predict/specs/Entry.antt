@@ -17,15 +17,20 @@ use Rattle.predict.specs.Samples.{Round, mask}
 use Rattle.predict.specs.Rules.{samplesOf, predicted, permitted}
 use Rattle.predict.specs.Choice.{Best, nothing, at, chosen}
 
+-- FLAGS: "flags byte above 15"
+abbrev pub flagsTest : ℕ → Test Refusal
+flagsTest flags = test (leb flags 15) (refusal.Flags 0)
+
+-- MODE: "number above 8, or what it needs is missing"
+abbrev pub modeTest : ℕ → ℕ → Test Refusal
+modeTest flags mode = test (permitted flags mode) (refusal.Mode 0)
+
 -- ---- predict
 
--- LENGTH: thirteen neighbours, sixteen samples out; FLAGS: "flags byte above 15"; MODE: "number above 8, or what it needs is missing"
+-- LENGTH: thirteen neighbours, sixteen samples out; then FLAGS, then MODE
 abbrev pub predictTests : (neighbours : List ℕ) (flags mode : ℕ) (out : List ℕ) → List (Test Refusal)
 predictTests neighbours flags mode out =
-    test (eqb (length neighbours) 13 && eqb (length out) 16) refusal.Length
-    ∷ test (leb flags 15) (refusal.Flags 0)
-    ∷ test (permitted flags mode) (refusal.Mode 0)
-    ∷ []
+    test (eqb (length neighbours) 13 && eqb (length out) 16) refusal.Length ∷ flagsTest flags ∷ modeTest flags mode ∷ []
 
 pub record Predicts (neighbours : List ℕ) (flags mode : ℕ) (before : List ℕ) (r : Answer) (after : List ℕ) : Type 0 where
   pub says : Says (said r) (chain (predictTests neighbours flags mode before))
@@ -33,12 +38,10 @@ pub record Predicts (neighbours : List ℕ) (flags mode : ℕ) (before : List �
 
 -- ---- choose
 
--- LENGTH: thirteen neighbours, sixteen samples in and out; FLAGS: "flags byte above 15"
+-- LENGTH: thirteen neighbours, sixteen samples in and out; then FLAGS
 abbrev pub chooseTests : (neighbours : List ℕ) (flags : ℕ) (samples prediction : List ℕ) → List (Test Refusal)
 chooseTests neighbours flags samples prediction =
-    test (eqb (length neighbours) 13 && (eqb (length samples) 16 && eqb (length prediction) 16)) refusal.Length
-    ∷ test (leb flags 15) (refusal.Flags 0)
-    ∷ []
+    test (eqb (length neighbours) 13 && (eqb (length samples) 16 && eqb (length prediction) 16)) refusal.Length ∷ flagsTest flags ∷ []
 
 -- what an answer says, and the mode and the SAD that come back (nothing where it refuses)
 abbrev pub saidChosen : Chosen → Verdict Refusal
