@@ -15,11 +15,11 @@ use borrow.Author.Tests.{ltb-true, ltb-false}
 use lib.Dec.{ltb}
 use lib.ListN.{getD}
 use Rattle.lists.specs.Fold.{fold}
-use Rattle.lists.specs.Total.{total}
+use Rattle.lists.specs.Total.{total, distance}
 use Rattle.lists.proofs.Fold.{fold-follow}
 use Rattle.predict.specs.Samples.{Round}
 use Rattle.predict.specs.Rules.{Predicted, samples, none, samplesOf, predicted}
-use Rattle.predict.specs.Choice.{Cost, is, no, Best, nothing, at, better, bestOf, difference, sad, costOf, chosen}
+use Rattle.predict.specs.Choice.{Cost, is, no, Best, nothing, at, better, bestOf, sad, costOf, chosen}
 
 -- mode m of the first n, with the SAD s
 pub record Least (n : ℕ) (cost : ℕ → Cost) (m s : ℕ) : Type 0 where
@@ -129,10 +129,10 @@ module _ (r : Round) (block : List ℕ) where
     lower-on-tie = chosen-least .lower
 
     -- the SAD that comes back is the sum over the chosen mode's own samples
-    pub sad-is-the-sum : s ≡ total 16 (λ k. difference (getD (samplesOf (predicted r m)) k 0) (getD block k 0))
+    pub sad-is-the-sum : s ≡ total 16 (λ k. distance (getD (samplesOf (predicted r m)) k 0) (getD block k 0))
     unfolding sad
     sad-is-the-sum = by (predicted r m) (chosen-least .costs)
       where
-        by : (p : Predicted) → costOf block p ≡ is s → s ≡ total 16 (λ k. difference (getD (samplesOf p) k 0) (getD block k 0))
+        by : (p : Predicted) → costOf block p ≡ is s → s ≡ total 16 (λ k. distance (getD (samplesOf p) k 0) (getD block k 0))
         by (samples l) q = same refl (sym q)
         by none q = clash refl (sym q)

@@ -1,11 +1,13 @@
 -- What the mask leaves of the neighbours, over the rows that the code reads.
 --     predicted-is     a permitted mode's samples are those of the rows; another mode has none
+--     none-exactly-if  a mode has no prediction exactly if the flags do not permit it
 --     mode-below-9     what is permitted has a number below 9
 --     filled-is        the same for what the code has filled
 -- Assumes nothing.
 use mathlib.Core.Path.{_≡_, refl, sym, ap, ap₂, subst, _∙_, fun-ext}
 use mathlib.Core.Bool.{Bool, true, false, cond, _&&_, false≢true}
 use mathlib.Core.List.{List, [], _∷_}
+use mathlib.Core.Logic.{_↔_}
 use Prim.Native.Nat.{ℕ, zero, suc, _<_}
 use native.Mathlib.Numerals.{add-one}
 use lib.Dec.{lit≤}
@@ -13,8 +15,8 @@ use lib.ListN.{length, getD}
 use Rattle.lists.specs.Tab.{grid, tab}
 use Rattle.lists.proofs.Tab.{tab-of}
 use Rattle.predict.specs.Samples.{Round, sideIf, bitOf, mask}
-use Rattle.predict.specs.Rules.{Predicted, samples, none, samplesOf, one, three, mean, predicted, permitted, downRight, verticalRight, horizontalDown, vertical, horizontal, downLeft, verticalLeft, horizontalUp}
-use Rattle.predict.specs.Code.{pastCorner, withCorner, meanOf, topRow, leftRow, filled}
+use Rattle.predict.specs.Rules.{Predicted, samples, none, samplesOf, one, three, predicted, permitted, downRight, verticalRight, horizontalDown, vertical, horizontal, downLeft, verticalLeft, horizontalUp}
+use Rattle.predict.specs.Code.{pastCorner, withCorner, topRow, leftRow, filled}
 
 past : (m : ℕ) (l : List ℕ) → (λ (k : ℕ). getD l k 0) ≡ pastCorner (m ∷ l)
 past m l = fun-ext (λ k. rw add-one)
@@ -31,12 +33,6 @@ three-is true true false m la ll rule = refl
 three-is true false c m la ll rule = refl
 three-is false b c m la ll rule = refl
 
-mean-is : (b c : Bool) (m : ℕ) (la ll : List ℕ) → mean (sideIf b la) (sideIf c ll) ≡ meanOf b c (pastCorner (m ∷ la)) (pastCorner (m ∷ ll))
-mean-is true true m la ll = ap₂ (meanOf true true) (past m la) (past m ll)
-mean-is true false m la ll = ap (λ (T : ℕ → ℕ). meanOf true false T T) (past m la)
-mean-is false true m la ll = ap (λ (S : ℕ → ℕ). meanOf false true S S) (past m ll)
-mean-is false false m la ll = refl
-
 -- over any rows
 over-rows : (f m M : ℕ) (la ll : List ℕ)
     → predicted (record { above = sideIf (bitOf f 0) la; left = sideIf (bitOf f 1) ll; corner = sideIf (bitOf f 2) (M ∷ []) }) m
@@ -44,7 +40,7 @@ over-rows : (f m M : ℕ) (la ll : List ℕ)
 unfolding predicted permitted filled
 over-rows f zero M la ll = one-is (bitOf f 0) M la vertical
 over-rows f (suc zero) M la ll = one-is (bitOf f 1) M ll horizontal
-over-rows f (suc (suc zero)) M la ll = ap (λ (v : ℕ). samples (grid 4 (λ x y. v))) (mean-is (bitOf f 0) (bitOf f 1) M la ll)
+over-rows f (suc (suc zero)) M la ll = refl
 over-rows f (suc (suc (suc zero))) M la ll = one-is (bitOf f 0) M la downLeft
 over-rows f (suc (suc (suc (suc zero)))) M la ll = three-is (bitOf f 0) (bitOf f 1) (bitOf f 2) M la ll downRight
 over-rows f (suc (suc (suc (suc (suc zero))))) M la ll = three-is (bitOf f 0) (bitOf f 1) (bitOf f 2) M la ll verticalRight
@@ -78,6 +74,13 @@ module _ (n : List ℕ) (f m : ℕ) (e : length n ≡ 13) where
       subst (λ (l : List ℕ). predicted (mask l f) m ≡ cond (permitted f m) (samples (filled (topRow l f) (leftRow l) f m)) none) (thirteen n e)
       (by-bit-3 f m (getD n 0 0) (getD n 1 0) (getD n 2 0) (getD n 3 0) (getD n 4 0) (getD n 5 0) (getD n 6 0) (getD n 7 0) (getD n 8 0)
       (getD n 9 0) (getD n 10 0) (getD n 11 0) (getD n 12 0) (bitOf f 3))
+
+  pub none-exactly-if : (predicted (mask n f) m ≡ none) ↔ (permitted f m ≡ false)
+  none-exactly-if = (only (permitted f m) refl, λ q. predicted-is ∙ rw q)
+    where
+      only : (b : Bool) → permitted f m ≡ b → predicted (mask n f) m ≡ none → permitted f m ≡ false
+      only false q h = q
+      only true q h = let z : samples (filled (topRow n f) (leftRow n) f m) ≡ none = rw q at (sym predicted-is) ∙ h in cc
 
   pub filled-is : {t s l : List ℕ} → permitted f m ≡ true → t ≡ topRow n f → s ≡ leftRow n → l ≡ filled t s f m → l ≡ samplesOf (predicted (mask n f) m)
   filled-is {t} {s} {l} p a b c =

@@ -2,21 +2,17 @@
 -- Assumes nothing.
 use mathlib.Core.Bool.{cond}
 use mathlib.Core.List.{List}
-use Prim.Native.Nat.{ℕ, _+_, _-_}
+use Prim.Native.Nat.{ℕ}
 use lib.Dec.{ltb}
 use lib.ListN.{getD}
 use Rattle.lists.specs.Fold.{fold}
-use Rattle.lists.specs.Total.{total}
+use Rattle.lists.specs.Total.{total, distance}
 use Rattle.predict.specs.Samples.{Round}
 use Rattle.predict.specs.Rules.{Predicted, samples, none, predicted}
 
--- |a - b|: one of the two differences is 0
-abbrev pub difference : ℕ → ℕ → ℕ
-difference a b = (a - b) + (b - a)
-
 -- the sum of absolute differences over n samples
 unfoldable pub sad : ℕ → List ℕ → List ℕ → ℕ
-sad n a b = total n (λ k. difference (getD a k 0) (getD b k 0))
+sad n a b = total n (λ k. distance (getD a k 0) (getD b k 0))
 
 -- what a mode costs, if it is permitted
 pub data Cost : Type 0 where

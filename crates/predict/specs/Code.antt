@@ -1,15 +1,14 @@
 -- What the code's rows and its area of nine predictions hold. No contract of a public function cites these.
 -- Assumes nothing.
-use mathlib.Core.Bool.{Bool, true, false, cond}
+use mathlib.Core.Bool.{cond}
 use mathlib.Core.List.{List, [], _∷_}
-use Prim.Native.Nat.{ℕ, _+_, _*_, _/_, _≤_}
+use Prim.Native.Nat.{ℕ, _+_, _*_, _≤_}
 use lib.Dec.{ltb}
 use lib.ListN.{getD, take, drop}
 use Rattle.lists.specs.Tab.{grid}
 use Rattle.lists.specs.Parts.{parts}
-use Rattle.lists.specs.Total.{total}
-use Rattle.predict.specs.Samples.{bitOf}
-use Rattle.predict.specs.Rules.{permitted, vertical, horizontal, downLeft, downRight, verticalRight, horizontalDown, verticalLeft, horizontalUp}
+use Rattle.predict.specs.Samples.{bitOf, sideIf}
+use Rattle.predict.specs.Rules.{mean, permitted, vertical, horizontal, downLeft, downRight, verticalRight, horizontalDown, verticalLeft, horizontalUp}
 use Rattle.predict.specs.Choice.{Cost, is, no, Best, nothing, at, sad}
 use Rattle.predict.specs.declared.choice.Standing.{Standing}
 
@@ -29,18 +28,16 @@ topRow n f =
 abbrev pub leftRow : List ℕ → List ℕ
 leftRow n = getD n 0 0 ∷ getD n 9 0 ∷ getD n 10 0 ∷ getD n 11 0 ∷ getD n 12 0 ∷ []
 
-abbrev pub meanOf : Bool → Bool → (a l : ℕ → ℕ) → ℕ
-meanOf true true a l = (total 4 a + total 4 l + 4) / 8
-meanOf true false a l = (total 4 a + 2) / 4
-meanOf false true a l = (total 4 l + 2) / 4
-meanOf false false a l = 128
+-- the mean of what the flags leave of the rows, past the corner
+abbrev pub meanOf : (t s : List ℕ) → ℕ → ℕ
+meanOf t s f = mean (sideIf (bitOf f 0) (drop 1 t)) (sideIf (bitOf f 1) (drop 1 s))
 
 -- a mode's sixteen samples over the rows
 unfoldable pub filled : (t s : List ℕ) → ℕ → ℕ → List ℕ
 filled t s f m =
     getD (grid 4 (vertical (pastCorner t))
     ∷ grid 4 (horizontal (pastCorner s))
-    ∷ grid 4 (λ x y. meanOf (bitOf f 0) (bitOf f 1) (pastCorner t) (pastCorner s))
+    ∷ grid 4 (λ x y. meanOf t s f)
     ∷ grid 4 (downLeft (pastCorner t))
     ∷ grid 4 (downRight (withCorner t) (withCorner s))
     ∷ grid 4 (verticalRight (withCorner t) (withCorner s))

@@ -2,6 +2,7 @@
 ghost use mathlib.Core.Path.{_≡_};
 ghost use Prim.Native.Nat.{_≤_};
 ghost use lib.ListN.{length};
+ghost use Rattle.lists.specs.Total.{distance};
 ghost use Rattle.predict.specs.Choice as paper;
 ghost use Rattle.predict.specs.Code.{areaCost, standing, looked, Small};
 use crate::inner::permitted;
@@ -14,7 +15,7 @@ pub(crate) struct Standing {
 }
 
 fn difference(a: u8, b: u8) -> u16
-    ensures { λ r. ⌜ (r ≡ paper.difference a b) × (r ≤ 255) ⌝ }
+    ensures { λ r. ⌜ (r ≡ distance a b) × (r ≤ 255) ⌝ }
 {
     if a < b { wide(b - a) } else { wide(a - b) }
 }

@@ -1,9 +1,8 @@
 // The sample of each direction at column x and row y. A row has the corner in front: the paper's T(k) is t[k + 1], S(k) is s[k + 1].
 ghost use mathlib.Core.Path.{_≡_};
 ghost use Prim.Native.Nat.{_+_, _<_, _≤_};
-ghost use lib.ListN.{length};
+ghost use lib.ListN.{length, getD, drop};
 ghost use Rattle.lists.specs.Total.{total};
-ghost use Rattle.predict.specs.Samples.{bitOf};
 ghost use Rattle.predict.specs.Rules as paper;
 ghost use Rattle.predict.specs.Code.{withCorner, pastCorner, meanOf};
 use crate::samples::flag;
@@ -60,14 +59,14 @@ pub(crate) fn wide(b: u8) -> u16
 // The sum of the four samples past the corner.
 fn sum_of_four(row: &[u8]) -> u16
     requires { ⌜ 5 ≤ length (now row) ⌝ }
-    ensures { λ r. ⌜ (r ≡ total 4 (pastCorner (now (row .entry)))) × (r ≤ 1020) ⌝ }
+    ensures { λ r. ⌜ (r ≡ total 4 (λ k. getD (drop 1 (now (row .entry))) k 0)) × (r ≤ 1020) ⌝ }
 {
     wide(row[1]) + wide(row[2]) + wide(row[3]) + wide(row[4])
 }
 
 pub(crate) fn dc(t: &[u8], s: &[u8], flags: u8) -> u8
     requires { ⌜ (5 ≤ length (now t)) × (5 ≤ length (now s)) ⌝ }
-    ensures { λ r. ⌜ r ≡ meanOf (bitOf flags 0) (bitOf flags 1) (pastCorner (now (t .entry))) (pastCorner (now (s .entry))) ⌝ }
+    ensures { λ r. ⌜ r ≡ meanOf (now (t .entry)) (now (s .entry)) flags ⌝ }
 {
     if flag(flags, 0) {
         if flag(flags, 1) {

@@ -4,13 +4,14 @@ use Prim.Native.Nat.{ℕ, _-_}
 use native.Mathlib.Omega.{arith}
 use borrow.Author.Needs.{needs}
 use lib.ListN.{getD}
+use Rattle.lists.specs.Total.{distance}
 use Rattle.lists.proofs.Total.{Totalling, totalling-none, totalling-more, totalling-done}
-use Rattle.predict.specs.Choice.{difference, sad}
+use Rattle.predict.specs.Choice.{sad}
 use Rattle.predict.proofs.choice.sad.Statement.{statement}
 use Rattle.predict.proofs.choice.sad.Tie as tie
 
 abbrev Inv-loop : tie.InvT-loop
-Inv-loop a b sum₀ k₀ sum k = Totalling 16 (λ (j : ℕ). difference (getD a j 0) (getD b j 0)) 255 sum k
+Inv-loop a b sum₀ k₀ sum k = Totalling 16 (λ (j : ℕ). distance (getD a j 0) (getD b j 0)) 255 sum k
 
 abbrev μ-loop : tie.MeasureT-loop
 μ-loop a b sum₀ k₀ sum k = 16 - k

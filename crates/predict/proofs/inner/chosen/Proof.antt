@@ -16,7 +16,8 @@ put-all-requires c κs =
 taken-requires : tie.Need-taken-requires
 taken-requires c κs =
     let r = c .before .before .before .before .before .before .before .before .before .before .before .resolve .ensures in
-    omega (arith, picked-mode (c .before .before .before .before .before .before .before .before .before .before .before .before .before .before .args .neighbours .now) _ (c .before .before .before .before .before .before .before .before .before .before .before .before .before .before .args .samples .now) (c .before .before .before .before .before .before .before .before .before .before .before .before .before .before .pre .0) (r .0) (r .1) (c .before .before .before .before .before .put-all .ensures) (c .before .before .best .ensures))
+    let s = c .before .before .before .before .before .before .before .before .before .before .before .before .before .before in
+    omega (arith, picked-mode (s .args .neighbours .now) _ (s .args .samples .now) (s .pre .0) (r .0) (r .1) (c .before .before .before .before .before .put-all .ensures) (c .before .before .best .ensures))
 
 returns : tie.Need-returns
 returns c =
