@@ -5,28 +5,24 @@
 -- Assumes nothing.
 use mathlib.Core.Path.{_≡_, refl, sym, ap, ap₂, subst, _∙_}
 use mathlib.Core.Bool.{Bool, true, false, cond}
-use mathlib.Core.List.{List, [], _∷_}
+use mathlib.Core.List.{List}
 use Prim.Native.Nat.{ℕ, zero, suc, _+_, _*_, _<_, _≤_, zero-le}
-use native.Mathlib.Numerals.{add-one}
 use native.Mathlib.Omega.{arith}
 use borrow.Author.Tests.{lt-ltb, le-ltb}
 use lib.Dec.{ltb}
-use lib.ListN.{length, take, drop, getD}
+use lib.ListN.{length, take, drop}
 use Rattle.lists.specs.Tab.{grid, tab}
 use Rattle.lists.specs.Fold.{fold}
-use Rattle.lists.specs.Parts.{parts}
-use Rattle.lists.proofs.Tab.{length-tab}
 use Rattle.lists.proofs.Parts.{parts-at}
 use Rattle.lists.proofs.Fold.{fold-more}
 use Rattle.predict.specs.declared.choice.Standing.{Standing}
-use Rattle.predict.specs.declared.inner.Choice.{Choice}
 use Rattle.predict.specs.Samples.{mask}
-use Rattle.predict.specs.Rules.{samples, none, samplesOf, predicted, permitted}
+use Rattle.predict.specs.Rules.{samples, none, predicted, permitted}
 use Rattle.predict.specs.Choice.{Cost, is, no, Best, nothing, at, better, bestOf, sad, costOf, chosen}
 use Rattle.predict.specs.Entry.{Picks}
 use Rattle.predict.specs.Code.{topRow, leftRow, filled, areaOf, areaCost, standing, looked, Small}
-use Rattle.predict.proofs.Least.{Least, costsOf, some-mode, best-same}
-use Rattle.predict.proofs.Masked.{predicted-is, filled-is, mode-below-9}
+use Rattle.predict.proofs.Least.{costsOf, some-mode, best-same}
+use Rattle.predict.proofs.Masked.{predicted-is, filled-is}
 
 -- ---- one mode
 

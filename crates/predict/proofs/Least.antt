@@ -3,7 +3,7 @@
 --     some-mode                                     DC is always permitted, so there always is a choice
 --     least, lower-on-tie, sad-is-the-sum           of the chosen mode
 -- Assumes nothing.
-use mathlib.Core.Path.{_≡_, refl, sym, ap, subst, _∙_}
+use mathlib.Core.Path.{_≡_, refl, sym, ap, subst}
 use mathlib.Core.Bool.{Bool, true, false, cond}
 use mathlib.Core.List.{List}
 use Prim.Native.Nat.{ℕ, zero, suc, _<_, _≤_}

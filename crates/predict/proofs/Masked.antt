@@ -14,8 +14,9 @@ use lib.Dec.{lit≤}
 use lib.ListN.{length, getD}
 use Rattle.lists.specs.Tab.{grid, tab}
 use Rattle.lists.proofs.Tab.{tab-of}
-use Rattle.predict.specs.Samples.{Round, sideIf, bitOf, mask}
-use Rattle.predict.specs.Rules.{Predicted, samples, none, samplesOf, one, three, predicted, permitted, downRight, verticalRight, horizontalDown, vertical, horizontal, downLeft, verticalLeft, horizontalUp}
+use Rattle.predict.specs.Samples.{sideIf, bitOf, mask}
+use Rattle.predict.specs.Rules.{samples, none, samplesOf, one, three, predicted, permitted}
+use Rattle.predict.specs.Rules.{vertical, horizontal, downLeft, downRight, verticalRight, horizontalDown, verticalLeft, horizontalUp}
 use Rattle.predict.specs.Code.{pastCorner, withCorner, topRow, leftRow, filled}
 
 past : (m : ℕ) (l : List ℕ) → (λ (k : ℕ). getD l k 0) ≡ pastCorner (m ∷ l)

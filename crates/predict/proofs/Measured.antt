@@ -8,7 +8,7 @@ use Rattle.lists.specs.Total.{total}
 use Rattle.lists.specs.Fold.{fold}
 use Rattle.predict.specs.Samples.{bitOf, mask}
 use Rattle.predict.specs.Rules.{Predicted, samples, none, predicted, vertical, horizontal, downLeft, downRight, verticalRight, verticalLeft, horizontalUp}
-use Rattle.predict.specs.Choice.{Best, at, sad, bestOf, chosen}
+use Rattle.predict.specs.Choice.{at, sad, bestOf, chosen}
 
 -- the sample at (x,y), in a list of its own; a mode that is not permitted has none
 pub sampleAt : Predicted → ℕ → ℕ → List ℕ

@@ -3,15 +3,15 @@
 --     missing-has-no-value-choice     of a choice: answer, mode, SAD and samples
 --     same-mask                       since everything below the mask is the same
 -- Assumes nothing.
-use mathlib.Core.Path.{_≡_, refl, sym, ap, ap₂, subst, _∙_}
-use mathlib.Core.Bool.{Bool, true, false, cond}
+use mathlib.Core.Path.{_≡_, refl, sym, ap, ap₂, _∙_}
+use mathlib.Core.Bool.{Bool, true, false}
 use mathlib.Core.List.{List, _++_}
 use Prim.Native.Nat.{ℕ}
 use lib.ListN.{length, getD, replicate}
 use Rattle.refusal.proofs.Same.{says-same, same-answer}
 use Rattle.refusal.specs.declared.Answer.{Answer}
 use Rattle.predict.specs.declared.Chosen.{Chosen}
-use Rattle.predict.specs.Samples.{cornerOf, aboveOf, upperRightOf, leftOf, bitOf, Side, sideIf, Round, eightOf, mask}
+use Rattle.predict.specs.Samples.{cornerOf, aboveOf, upperRightOf, leftOf, bitOf, sideIf, eightOf, mask}
 use Rattle.predict.specs.Entry.{Predicts, Chooses}
 use Rattle.predict.proofs.Outcome.{same-chosen}
 

@@ -3,7 +3,7 @@
 --     same-chosen     an answer is known by what it says and what it brings
 --     same-choice     a choice is known by what it picks
 -- Assumes nothing.
-use mathlib.Core.Path.{_≡_, refl, sym, ap, subst, _∙_}
+use mathlib.Core.Path.{_≡_, sym, ap, _∙_}
 use mathlib.Core.Bool.{true, false}
 use mathlib.Core.List.{List}
 use Prim.Native.Nat.{ℕ, _<_, _≤_}
@@ -22,7 +22,7 @@ use Rattle.predict.specs.declared.Chosen.the-variants.{Mode, Refused}
 use Rattle.predict.specs.declared.inner.Choice.{Choice}
 use Rattle.predict.specs.Samples.{Round, mask}
 use Rattle.predict.specs.Rules.{samplesOf, predicted, permitted}
-use Rattle.predict.specs.Choice.{Best, nothing, at, chosen}
+use Rattle.predict.specs.Choice.{nothing, at, chosen}
 use Rattle.predict.specs.Entry.{predictTests, Predicts, chooseTests, saidChosen, bestIn, bestSamples, Chooses, Picks}
 
 -- ---- predict

@@ -4,7 +4,7 @@
 --     two-back, three-back                     the paper's places past a corner, as the code counts them
 --     part-of                                  a part of a list by the rule of its elements
 -- Assumes nothing.
-use mathlib.Core.Path.{_≡_, refl, sym, _∙_}
+use mathlib.Core.Path.{_≡_, refl, sym}
 use mathlib.Core.Bool.{Bool, true, false, _&&_}
 use mathlib.Core.List.{List}
 use mathlib.Core.Logic.{_≢_}

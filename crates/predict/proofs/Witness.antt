@@ -1,14 +1,12 @@
 -- Inputs at which a faulty definition would answer otherwise: what the must-fail edits of specs/ run into. Assumes nothing.
 use mathlib.Core.Path.{_≡_, refl}
-use mathlib.Core.List.{List, [], _∷_}
-use Prim.Native.Nat.{ℕ}
 use lib.ListN.{replicate}
-use Rattle.lists.specs.Chain.{stop, chain}
+use Rattle.lists.specs.Chain.{chain}
 use Rattle.lists.specs.Tab.{tab, grid}
 use Rattle.lists.specs.Total.{total}
 use Rattle.refusal.specs.Number.{number}
 use Rattle.predict.specs.Samples.{bitOf, mask}
-use Rattle.predict.specs.Rules.{Predicted, samples, none, predicted, permitted, vertical, horizontal, downLeft, downRight, verticalRight, verticalLeft, horizontalUp}
+use Rattle.predict.specs.Rules.{samples, none, predicted, permitted}
 use Rattle.predict.specs.Entry.{predictTests, chooseTests}
 
 -- flags 16 and mode 9 are both bad: FLAGS, which is tested first, is sent back

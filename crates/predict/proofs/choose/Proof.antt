@@ -18,8 +18,11 @@ returns-4 c = chosen-high _ _ _ _ (c .before .before .before .if1 .left) (c .bef
 
 returns-5 : tie.Need-returns-5
 returns-5 c =
-    let k = c .before .before .before .before .before .before in
-    chosen-done _ _ _ _ (k .before .before .before .if1 .left) (k .before .before .if2 .left) (k .before .if3 .left) _ (k .if4 .left) (c .before .before .before .before .before .chosen .ensures) (c .before .before .copy .ensures)
+    let s = c .before .before .before .before .before in
+    let k = s .before in
+    chosen-done _ _ _ _ (k .before .before .before .if1 .left) (k .before .before .if2 .left) (k .before .if3 .left) _ (k .if4 .left)
+    (s .chosen .ensures)
+    (c .before .before .copy .ensures)
 
 pub choose-spec : {M : Type 1} → statement M
 choose-spec =

@@ -15,15 +15,22 @@ returns-3 : tie.Need-returns-3
 returns-3 c = high _ _ _ _ (c .before .before .if1 .left) (c .before .if2 .left) (c .if3 .taken)
 
 fill-requires : tie.Need-fill-requires
-fill-requires c κs = (c .before .before .before .before .before .if1 .left, sym (c .before .before .permitted .ensures) ∙ c .before .if4 .taken, c .before .before .before .before .if2 .left)
+fill-requires c κs =
+    let t = c .before in
+    let k = t .before .before in
+    (k .before .before .if1 .left, sym (t .before .permitted .ensures) ∙ t .if4 .taken, k .before .if2 .left)
 
 returns-4 : tie.Need-returns-4
 returns-4 c =
-    let k = c .before .before .before .before .before .before in
-    done _ _ _ _ (k .before .before .if1 .left) (k .before .if2 .left) (k .if3 .left) (sym (c .before .before .before .before .before .permitted .ensures) ∙ c .before .before .before .before .if4 .taken) (c .before .before .fill .ensures)
+    let t = c .before .before .before .before in
+    let k = t .before .before in
+    done _ _ _ _ (k .before .before .if1 .left) (k .before .if2 .left) (k .if3 .left) (sym (t .before .permitted .ensures) ∙ t .if4 .taken)
+    (c .before .before .fill .ensures)
 
 returns-5 : tie.Need-returns-5
-returns-5 c = unfit _ _ _ _ (c .before .before .before .before .if1 .left) (c .before .before .before .if2 .left) (c .before .before .if3 .left) (sym (c .before .permitted .ensures) ∙ c .if4 .left)
+returns-5 c =
+    let k = c .before .before in
+    unfit _ _ _ _ (k .before .before .if1 .left) (k .before .if2 .left) (k .if3 .left) (sym (c .before .permitted .ensures) ∙ c .if4 .left)
 
 pub predict-spec : {M : Type 1} → statement M
 predict-spec =

@@ -1,6 +1,6 @@
 -- `predict::choice::consider` meets its contract: what is permitted is weighed by its part of the area. Assumes nothing.
 use mathlib.Core.Path.{_≡_, sym, _∙_}
-use Prim.Native.Nat.{ℕ, _+_, _*_, _-_}
+use Prim.Native.Nat.{_+_, _*_, _-_}
 use native.Mathlib.Omega.{arith}
 use borrow.Author.Needs.{needs}
 use Rattle.predict.proofs.Area.{area-less, area-more, area-passed}

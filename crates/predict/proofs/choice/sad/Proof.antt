@@ -1,5 +1,4 @@
 -- `predict::choice::sad` meets its contract: a loop that adds differences of at most 255. Assumes nothing.
-use mathlib.Core.List.{List}
 use Prim.Native.Nat.{ℕ, _-_}
 use native.Mathlib.Omega.{arith}
 use borrow.Author.Needs.{needs}

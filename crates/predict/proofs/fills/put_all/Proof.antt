@@ -1,11 +1,11 @@
 -- `predict::fills::put_all` meets its contract: nine parts that come home one behind the other. Assumes nothing.
 use mathlib.Core.Path.{_≡_, _∙_}
-use Prim.Native.Nat.{ℕ, _+_, _*_, _-_, _≤_}
+use Prim.Native.Nat.{_+_, _*_, _-_, _≤_}
 use native.Mathlib.Omega.{arith}
 use borrow.Author.Needs.{needs}
 use lib.ListN.{length}
 use Rattle.lists.specs.Parts.{parts}
-use Rattle.lists.proofs.Parts.{Growing, growing-none, growing-part, growing-done, parts-none, parts-more}
+use Rattle.lists.proofs.Parts.{Growing, growing-none, growing-part, growing-done, parts-more}
 use Rattle.predict.specs.Code.{filled}
 use Rattle.predict.proofs.fills.put_all.Statement.{statement}
 use Rattle.predict.proofs.fills.put_all.Tie as tie

@@ -1,9 +1,9 @@
 -- `predict::fills::taken` meets its contract: a loop that stores the elements of a part. Assumes nothing.
-use mathlib.Core.Path.{refl, sym, _∙_}
+use mathlib.Core.Path.{_∙_}
 use Prim.Native.Nat.{ℕ, _+_, _-_}
 use native.Mathlib.Omega.{arith}
 use borrow.Author.Needs.{needs}
-use lib.ListN.{getD, take, drop}
+use lib.ListN.{getD}
 use Rattle.lists.proofs.Tab.{Filling, filling-none, filling-more, filling-done}
 use Rattle.predict.proofs.Places.{part-of}
 use Rattle.predict.proofs.fills.taken.Statement.{statement}

@@ -1,6 +1,5 @@
 -- `predict::inner::chosen` meets its contract: the area holds all nine predictions, and the best is read from it. Assumes nothing.
 use mathlib.Core.Path.{ap}
-use Prim.Native.Nat.{_+_, _*_}
 use native.Mathlib.Omega.{arith}
 use borrow.Author.Needs.{needs}
 use lib.ListN.{length}
@@ -17,13 +16,16 @@ taken-requires : tie.Need-taken-requires
 taken-requires c κs =
     let r = c .before .before .before .before .before .before .before .before .before .before .before .resolve .ensures in
     let s = c .before .before .before .before .before .before .before .before .before .before .before .before .before .before in
-    omega (arith, picked-mode (s .args .neighbours .now) _ (s .args .samples .now) (s .pre .0) (r .0) (r .1) (c .before .before .before .before .before .put-all .ensures) (c .before .before .best .ensures))
+    let m = picked-mode (s .args .neighbours .now) _ (s .args .samples .now) (s .pre .0) (r .0) (r .1) (c .before .before .before .before .before .put-all .ensures) (c .before .before .best .ensures) in
+    omega arith
 
 returns : tie.Need-returns
 returns c =
     let r = c .before .before .before .before .before .before .before .before .before .before .before .before .resolve .ensures in
     let s = c .before .before .before .before .before .before .before .before .before .before .before .before .before .before .before in
-    picked (s .args .neighbours .now) _ (s .args .samples .now) (s .pre .0) (r .0) (r .1) (c .before .before .before .before .before .before .put-all .ensures) (c .before .before .before .best .ensures) (c .taken .ensures)
+    picked (s .args .neighbours .now) _ (s .args .samples .now) (s .pre .0) (r .0) (r .1) (c .before .before .before .before .before .before .put-all .ensures)
+    (c .before .before .before .best .ensures)
+    (c .taken .ensures)
 
 pub chosen-spec : {M : Type 1} → statement M
 chosen-spec =

@@ -7,22 +7,26 @@ use Rattle.predict.proofs.rules.dc.Tie as tie
 
 returns : tie.Need-returns
 returns c =
-    simp (sym (c .before .before .before .before .before .flag .ensures) ∙ c .before .before .before .before .if1 .taken, sym (c .before .before .before .flag2 .ensures) ∙ c .before .before .if2 .taken)
+    let t = c .before .before in
+    simp (sym (t .before .before .before .flag .ensures) ∙ t .before .before .if1 .taken, sym (t .before .flag2 .ensures) ∙ t .if2 .taken)
     (omega arith)
 
 returns-2 : tie.Need-returns-2
 returns-2 c =
-    simp (sym (c .before .before .before .before .flag .ensures) ∙ c .before .before .before .if1 .taken, sym (c .before .before .flag2 .ensures) ∙ c .before .if2 .left)
+    let t = c .before in
+    simp (sym (t .before .before .before .flag .ensures) ∙ t .before .before .if1 .taken, sym (t .before .flag2 .ensures) ∙ t .if2 .left)
     (omega arith)
 
 returns-3 : tie.Need-returns-3
 returns-3 c =
-    simp (sym (c .before .before .before .before .flag .ensures) ∙ c .before .before .before .if1 .left, sym (c .before .before .flag3 .ensures) ∙ c .before .if3 .taken)
+    let t = c .before in
+    simp (sym (t .before .before .before .flag .ensures) ∙ t .before .before .if1 .left, sym (t .before .flag3 .ensures) ∙ t .if3 .taken)
     (omega arith)
 
 returns-4 : tie.Need-returns-4
 returns-4 c =
-    simp (sym (c .before .before .before .flag .ensures) ∙ c .before .before .if1 .left, sym (c .before .flag3 .ensures) ∙ c .if3 .left)
+    let t = c in
+    simp (sym (t .before .before .before .flag .ensures) ∙ t .before .before .if1 .left, sym (t .before .flag3 .ensures) ∙ t .if3 .left)
     (omega arith)
 
 pub dc-spec : {M : Type 1} → statement M

@@ -5,10 +5,10 @@ use Rattle.predict.proofs.samples.resolve.Statement.{statement}
 use Rattle.predict.proofs.samples.resolve.Tie as tie
 
 returns : tie.Need-returns
-returns c = (simp (sym (c .before .before .before .before .before .before .before .before .before .before .flag .ensures) ∙ c .before .before .before .before .before .before .before .before .before .if1 .taken), refl)
+returns c = let t = c .before .before .before .before .before .before .before .before .before in (simp (sym (t .before .flag .ensures) ∙ t .if1 .taken), refl)
 
 returns-2 : tie.Need-returns-2
-returns-2 c = (simp (sym (c .before .before .before .before .before .before .flag .ensures) ∙ c .before .before .before .before .before .if1 .left), refl)
+returns-2 c = let t = c .before .before .before .before .before in (simp (sym (t .before .flag .ensures) ∙ t .if1 .left), refl)
 
 pub resolve-spec : {M : Type 1} → statement M
 resolve-spec =
