@@ -32,7 +32,7 @@ module _ (n : List ℕ) (f m : ℕ) (o : List ℕ) where
   predict-refuses-exactly-if r after p = says-exactly-if (predictTests n f m o) (p .says)
 
   refused : (r : Refusal) → chain (predictTests n f m o) ≡ stop r → Predicts n f m o (answer.Refused r) o
-  refused r e = record { says = says (sym e); wrote = ap (λ (v : Verdict Refusal). written v (samplesOf (predicted (mask n f) m)) o) (sym e) }
+  refused r e = record { says = says (sym e); wrote = simp e }
 
   pub few : (length n ≡ 13 → ⊥) → Predicts n f m o (answer.Refused refusal.Length) o
   few h = refused refusal.Length (simp (ne-eqb (length n) 13 h))
@@ -50,7 +50,7 @@ module _ (n : List ℕ) (f m : ℕ) (o : List ℕ) where
     pub done : {after : List ℕ} → f ≤ 15 → permitted f m ≡ true → after ≡ samplesOf (predicted (mask n f) m) → Predicts n f m o answer.Done after
     done {after} l p w =
         let e : chain (predictTests n f m o) ≡ pass = simp (eq-eqb (length n) 13 h, eq-eqb (length o) 16 k, le-leb f 15 l, p) in
-        record { says = says (sym e); wrote = w ∙ ap (λ (v : Verdict Refusal). written v (samplesOf (predicted (mask n f) m)) o) (sym e) }
+        record { says = says (sym e); wrote = simp e w }
 
 -- ---- choose
 
@@ -73,11 +73,7 @@ module _ (n : List ℕ) (f : ℕ) (block o : List ℕ) where
   choose-refuses-exactly-if r after p = says-exactly-if (chooseTests n f block o) (p .says)
 
   chosen-not : (r : Refusal) → chain (chooseTests n f block o) ≡ stop r → Chooses n f block o (Refused r) o
-  chosen-not r e = record {
-    says = says (sym e);
-    best = ap (λ (v : Verdict Refusal). written v (chosen (mask n f) block) nothing) (sym e);
-    wrote = ap (λ (v : Verdict Refusal). written v (bestSamples (mask n f) (chosen (mask n f) block)) o) (sym e);
-  }
+  chosen-not r e = record { says = says (sym e); best = simp e; wrote = simp e }
 
   pub chosen-few : (length n ≡ 13 → ⊥) → Chooses n f block o (Refused refusal.Length) o
   chosen-few h = chosen-not refusal.Length (simp (ne-eqb (length n) 13 h))
@@ -96,12 +92,4 @@ module _ (n : List ℕ) (f : ℕ) (block o : List ℕ) where
       pub chosen-done : (c : Choice) {after : List ℕ} → f ≤ 15 → Picks (mask n f) block c → after ≡ c .prediction → Chooses n f block o (Mode (c .mode) (c .sad)) after
       chosen-done c {after} l p w =
           let e : chain (chooseTests n f block o) ≡ pass = simp (eq-eqb (length n) 13 h, eq-eqb (length block) 16 k, eq-eqb (length o) 16 j, le-leb f 15 l) in
-          record {
-            says = says (sym e);
-            best = p .best ∙ ap (λ (v : Verdict Refusal). written v (chosen (mask n f) block) nothing) (sym e);
-            wrote =
-                w
-                ∙ p .prediction
-                ∙ ap (bestSamples (mask n f)) (p .best)
-                ∙ ap (λ (v : Verdict Refusal). written v (bestSamples (mask n f) (chosen (mask n f) block)) o) (sym e);
-          }
+          record { says = says (sym e); best = simp e (cc); wrote = simp e (w ∙ p .prediction ∙ ap (bestSamples (mask n f)) (p .best)) }
