@@ -15,11 +15,11 @@ pub sampleAt : Predicted → ℕ → ℕ → List ℕ
 sampleAt (samples l) x y = getD l (4 * y + x) 0 ∷ []
 sampleAt none x y = []
 
--- A..H = 10,20..80, nothing else there; 200 stands where a sample is missing
+-- A..H = 10,20..80, nothing else present; 200 stands where a sample is missing
 pub above : List ℕ
 above = 200 ∷ 10 ∷ 20 ∷ 30 ∷ 40 ∷ 50 ∷ 60 ∷ 70 ∷ 80 ∷ 200 ∷ 200 ∷ 200 ∷ 200 ∷ []
 
--- I..L = 10,20,30,41, nothing else there
+-- I..L = 10,20,30,41, nothing else present
 pub left : List ℕ
 left = 200 ∷ 200 ∷ 200 ∷ 200 ∷ 200 ∷ 200 ∷ 200 ∷ 200 ∷ 200 ∷ 10 ∷ 20 ∷ 30 ∷ 41 ∷ []
 
@@ -29,16 +29,16 @@ piece neighbours flags mode x y = sampleAt (predicted (mask neighbours flags) mo
 pub pieces : List (List ℕ)
 pieces = piece above 9 3 0 0 ∷ piece above 9 3 3 3 ∷ piece above 1 3 3 3 ∷ piece left 2 8 1 2 ∷ piece left 2 8 2 2 ∷ []
 
-pub measured : pieces ≡ (20 ∷ []) ∷ (78 ∷ []) ∷ (40 ∷ []) ∷ (38 ∷ []) ∷ (41 ∷ []) ∷ []
+pub prediction-measured : pieces ≡ (20 ∷ []) ∷ (78 ∷ []) ∷ (40 ∷ []) ∷ (38 ∷ []) ∷ (41 ∷ []) ∷ []
 unfolding sampleAt above left piece pieces predicted bitOf downLeft horizontalUp grid tab
-measured = refl
+prediction-measured = refl
 
 -- "All neighbours and all samples 100: mode 0, SAD 0."
-pub hundred : chosen (mask (replicate 13 100) 15) (replicate 16 100) ≡ at 0 0
+pub choice-measured : chosen (mask (replicate 13 100) 15) (replicate 16 100) ≡ at 0 0
 unfolding chosen bestOf fold sad total predicted bitOf vertical horizontal downLeft downRight verticalRight verticalLeft horizontalUp grid tab
-hundred = refl
+choice-measured = refl
 
--- the program's example: nothing there, all samples 138
-pub nothing-there : chosen (mask (replicate 13 77) 0) (replicate 16 138) ≡ at 2 160
+-- the program's example: nothing present, all samples 138
+pub nothing-present : chosen (mask (replicate 13 77) 0) (replicate 16 138) ≡ at 2 160
 unfolding chosen bestOf fold sad total predicted bitOf grid tab
-nothing-there = refl
+nothing-present = refl
