@@ -3,7 +3,7 @@
 --     growing-all, last-two                                                 straight stores at 0, 1, ..; in the last two places
 --     Pasting: pasting-none, pasting-more, pasting-done                     stores from place a on, the others as they were
 --     parts-none, parts-more, parts-split, part-behind                      parts one behind the other; what stands behind the first k
---     part-home                                                             a lent part that comes home, as a paste
+--     part-home, part-read                                                  a lent part that comes home, as a paste; read again
 -- Assumes nothing.
 use mathlib.Core.Path.{_≡_, refl, sym, ap, _∙_}
 use mathlib.Core.List.{List, [], _∷_, _++_, append-assoc, append-nil}
@@ -99,6 +99,10 @@ module _ {A : Type 0} where
       sym (append-assoc (take a d) w (postOf a (e - a) d))
       ∙ ap (λ (t : List A). (take a d ++ w) ++ t) (post-is a e d h)
       ∙ ap (λ (n : ℕ). (take a d ++ w) ++ drop n d) z
+
+  pub part-read : (d w : List A) (a e : ℕ) → a ≤ length d → length w ≡ e - a → take (e - a) (drop a (putMid a (e - a) d w)) ≡ w
+  part-read d w a e h l =
+      ap (take (e - a)) (drop-at (take a d) (w ++ postOf a (e - a) d) a (length-take-le a d h)) ∙ take-at w (postOf a (e - a) d) (e - a) l
 
   -- d is d₀ with the first k elements of v stored from place a on
   pub record Pasting (a : ℕ) (v d₀ d : List A) (k : ℕ) : Type 0 where
