@@ -31,8 +31,8 @@ use Rattle.record.specs.Numbers.{bytesOf, numberAt, levelBytes}
 use Rattle.record.specs.Records.{summed, sumHolds, headOf, headMark, macroblockMark, frontOf, recordOf, numberIn, qpIn, modeIn, levelIn, blockIn, recordLength, recordAt}
 use Rattle.record.specs.Sum.{recordSum}
 use Rattle.record.specs.declared.Fault.{Fault}
-use Rattle.record.specs.declared.Walk.{Walk}
 use Rattle.record.specs.declared.Walk.the-variants.{Whole}
+use Rattle.record.specs.declared.Walk.{Walk}
 use Rattle.record.proofs.Forms.{fine}
 use Rattle.record.proofs.Heads.{head-legal}
 use Rattle.record.proofs.Levels.{highAt, lowAt, levels-append, length-levels, levels-by-two}

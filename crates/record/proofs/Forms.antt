@@ -14,8 +14,8 @@ use Rattle.record.specs.Faults.{formTests, formSaid}
 use Rattle.record.specs.Numbers.{numberAt}
 use Rattle.record.specs.Records.{macroblockMark, numberIn, sumHolds}
 use Rattle.record.specs.declared.Fault.the-variants.{Mark, Number, Sum}
-use Rattle.record.specs.declared.Form.{Form}
 use Rattle.record.specs.declared.Form.the-variants.{Fine, Faulty}
+use Rattle.record.specs.declared.Form.{Form}
 
 module _ (number : ℕ) (bytes : List ℕ) where
   pub mark-wrong : (numberAt 0 bytes ≡ macroblockMark → ⊥) → chain (formTests number bytes) ≡ stop Mark

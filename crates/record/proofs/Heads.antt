@@ -16,8 +16,8 @@ use Rattle.refusal.specs.declared.Refusal.the-variants as refusal
 use Rattle.record.specs.Entry.{sizeHolds, widthAt, heightAt, headTests, said, widthOf, heightOf, ReadsHead}
 use Rattle.record.specs.Numbers.{numberAt}
 use Rattle.record.specs.Records.{headMark, sumHolds}
-use Rattle.record.specs.declared.Head.{Head}
 use Rattle.record.specs.declared.Head.the-variants.{Legal, Refused}
+use Rattle.record.specs.declared.Head.{Head}
 
 module _ (file : List ℕ) where
   pub head-short : length file < 8 → chain (headTests file) ≡ stop (refusal.Form 0)

@@ -1,6 +1,7 @@
 -- Modes in bytes.
---     packed-more, length-packed     one byte more; how many there are
---     packed-back                    what is packed comes back
+--     shifted-up, masked, shifted-down     the code's shifts and masks
+--     packed-more, length-packed           one byte more; how many there are
+--     packed-back                          what is packed comes back
 -- Assumes nothing.
 use mathlib.Core.Path.{_≡_, refl, ap, _∙_}
 use mathlib.Core.Bool.{Bool, true, false, cond}
@@ -8,12 +9,24 @@ use mathlib.Core.List.{List, [], _∷_, _++_}
 use Prim.Native.Nat.{ℕ, _+_, _*_, _/_, _%_, _<_}
 use native.Mathlib.Numerals.{add-one}
 use native.Mathlib.Omega.{arith}
-use borrow.Author.Tests.{eqb-true, eqb-false}
+use borrow.Author.Tests.{eqb-true, eqb-false, eq-eqb, ne-eqb}
+use lib.Bits.{bitAnd, bitOr, and-mask, or-shifted-r}
 use lib.Dec.{eqb}
 use lib.ListN.{length, getD}
 use Rattle.lists.specs.Tab.{tab}
 use Rattle.lists.proofs.Tab.{length-tab, getD-tab}
 use Rattle.record.specs.Modes.{paired, packed, unpaired}
+
+pub shifted-up : (low high : ℕ) → low < 16 → high < 16 → bitOr low (high * 16 % 256) ≡ paired low high
+shifted-up low high h k =
+    let e : high * 16 % 256 ≡ high * 16 = omega arith in
+    rw e (or-shifted-r high 4 low h)
+
+pub masked : (block byte : ℕ) → block % 2 ≡ 0 → bitAnd byte 15 ≡ unpaired block byte
+masked block byte e = rw (eq-eqb (block % 2) 0 e) (and-mask byte 4)
+
+pub shifted-down : (block byte : ℕ) → (block % 2 ≡ 0 → ⊥) → byte / 16 ≡ unpaired block byte
+shifted-down block byte e = rw (ne-eqb (block % 2) 0 e)
 
 module _ (modes : List ℕ) where
   -- byte k

@@ -7,7 +7,7 @@
 --     walk-stands                it stands at the place of the next record, or a fault has stopped it
 --     walk-breaks-exactly-if     it stops at a record exactly if this one is faulty and none before it is
 --     walk-whole-exactly-if      it comes through exactly if every record's form is fine
---     Walked: place-known, record-known, end-known     a walk that came through went by steps of 527
+--     place-known, record-known, end-known     a walk that came through went by steps of 527: what code needs to lend record m
 -- Assumes nothing.
 use mathlib.Core.Path.{_≡_, refl, sym, ap, _∙_}
 use mathlib.Core.Bool.{Bool, true, false, cond}
@@ -90,7 +90,8 @@ module _ (file : List ℕ) where
     abbrev pub verdictAt : ℕ → Verdict Fault
     verdictAt m = chain (formTests m (recordAt (recordPlace m file start) file))
 
-    abbrev Stopped : ℕ → Type 0
+    -- a fault has stopped the walk
+    abbrev pub Stopped : ℕ → Type 0
     Stopped n = (fault : Fault) × (place : ℕ) × (walkOf n file start ≡ Broken fault place)
 
     -- one record more, from where the walk stands

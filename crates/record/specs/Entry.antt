@@ -8,14 +8,14 @@ use lib.Dec.{eqb, leb}
 use lib.ListN.{length, take}
 use Rattle.lists.specs.Chain.{Test, test, Verdict, pass, stop, chain, written}
 use Rattle.refusal.specs.Number.{Says}
-use Rattle.refusal.specs.declared.Refusal.{Refusal}
 use Rattle.refusal.specs.declared.Refusal.the-variants as refusal
+use Rattle.refusal.specs.declared.Refusal.{Refusal}
 use Rattle.record.specs.Faults.{refusalOf}
 use Rattle.record.specs.Numbers.{numberAt}
 use Rattle.record.specs.Records.{headMark, sumHolds}
 use Rattle.record.specs.declared.Fault.the-variants.{Mark, Sum}
-use Rattle.record.specs.declared.Head.{Head}
 use Rattle.record.specs.declared.Head.the-variants.{Legal, Refused}
+use Rattle.record.specs.declared.Head.{Head}
 
 -- "Width and height are 1 to 128 macroblocks"
 abbrev pub dimension : ℕ → Bool

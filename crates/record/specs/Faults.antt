@@ -5,16 +5,16 @@ use Prim.Native.Nat.{ℕ, _+_}
 use lib.Dec.{eqb}
 use Rattle.lists.specs.Chain.{Test, test, Verdict, pass, stop, chain}
 use Rattle.lists.specs.Fold.{fold}
-use Rattle.refusal.specs.declared.Refusal.{Refusal}
 use Rattle.refusal.specs.declared.Refusal.the-variants as refusal
+use Rattle.refusal.specs.declared.Refusal.{Refusal}
 use Rattle.record.specs.Numbers.{numberAt}
 use Rattle.record.specs.Records.{macroblockMark, numberIn, sumHolds, recordLength, recordAt}
-use Rattle.record.specs.declared.Fault.{Fault}
 use Rattle.record.specs.declared.Fault.the-variants.{Mark, Number, Sum}
-use Rattle.record.specs.declared.Form.{Form}
+use Rattle.record.specs.declared.Fault.{Fault}
 use Rattle.record.specs.declared.Form.the-variants.{Fine, Faulty}
-use Rattle.record.specs.declared.Walk.{Walk}
+use Rattle.record.specs.declared.Form.{Form}
 use Rattle.record.specs.declared.Walk.the-variants.{Whole, Broken}
+use Rattle.record.specs.declared.Walk.{Walk}
 
 -- number and place of a fault in the record that begins at a place
 abbrev pub refusalOf : Fault → ℕ → Refusal

@@ -1,24 +1,24 @@
 -- `record::read_head` meets its contract: short, mark, sum, then SIZE. Assumes nothing.
-use Rattle.record.specs.Records.{headMark, sumHolds}
-use Rattle.record.specs.Numbers.{numberAt}
-use Rattle.record.specs.Entry.{sizeHolds, widthAt, heightAt}
-use Rattle.lists.specs.Chain.{stop}
-use lib.ListN.{take}
-use mathlib.Core.Bool.{true}
-use Rattle.record.proofs.Heads.{head-short, head-mark, head-sum, head-size, head-legal}
-use Rattle.refusal.proofs.Same.{says}
-use lib.Seq.{length-take-le}
-use borrow.Author.Tests.{not-true, not-false}
-use native.Mathlib.Omega.{arith}
 use mathlib.Core.Path.{_≡_, sym, ap, _∙_}
+use mathlib.Core.Bool.{true}
+use native.Mathlib.Omega.{arith}
 use borrow.Author.Needs.{needs}
+use borrow.Author.Tests.{not-true, not-false}
+use lib.ListN.{take}
+use lib.Seq.{length-take-le}
+use Rattle.lists.specs.Chain.{stop}
+use Rattle.refusal.proofs.Same.{says}
+use Rattle.record.specs.Entry.{sizeHolds, widthAt, heightAt}
+use Rattle.record.specs.Numbers.{numberAt}
+use Rattle.record.specs.Records.{headMark, sumHolds}
+use Rattle.record.proofs.Heads.{head-short, head-mark, head-sum, head-size, head-legal}
 use Rattle.record.proofs.read_head.Statement.{statement}
 use Rattle.record.proofs.read_head.Tie as tie
 
 returns : tie.Need-returns
 returns c =
     let e = head-short (c .before .before .args .file .now) (c .if1 .taken) in
-    record { says = says (simp e); width = simp e; height = simp e }
+    record { says = says (sym e); width = simp e; height = simp e }
 
 number-at-requires : tie.Need-number-at-requires
 number-at-requires c κs = search needs

@@ -1,12 +1,12 @@
 -- `record::bytes::sum` meets its contract: the sum so far is the remainder of the sum of the bytes passed. Assumes nothing.
-use Rattle.record.proofs.Sums.{sum-take}
-use Rattle.record.specs.Sum.{sumOf, recordSum}
-use lib.Seq.{take-all}
-use lib.ListN.{length, take}
-use native.Mathlib.Omega.{arith}
-use Prim.Native.Nat.{_≤_, _-_}
 use mathlib.Core.Path.{_≡_, ap, _∙_}
+use Prim.Native.Nat.{_≤_, _-_}
+use native.Mathlib.Omega.{arith}
 use borrow.Author.Needs.{needs}
+use lib.ListN.{length, take}
+use lib.Seq.{take-all}
+use Rattle.record.specs.Sum.{sumOf, recordSum}
+use Rattle.record.proofs.Sums.{sum-take}
 use Rattle.record.proofs.bytes.sum.Statement.{statement}
 use Rattle.record.proofs.bytes.sum.Tie as tie
 

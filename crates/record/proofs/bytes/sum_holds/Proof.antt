@@ -1,11 +1,11 @@
 -- `record::bytes::sum_holds` meets its contract: one comparison. Assumes nothing.
-use Rattle.record.specs.Records.{sumHolds}
-use lib.Seq.{length-take-le}
-use lib.ListN.{length}
-use native.Mathlib.Omega.{arith}
-use Prim.Native.Nat.{_-_}
 use mathlib.Core.Path.{sym}
+use Prim.Native.Nat.{_-_}
+use native.Mathlib.Omega.{arith}
 use borrow.Author.Needs.{needs}
+use lib.ListN.{length}
+use lib.Seq.{length-take-le}
+use Rattle.record.specs.Records.{sumHolds}
 use Rattle.record.proofs.bytes.sum_holds.Statement.{statement}
 use Rattle.record.proofs.bytes.sum_holds.Tie as tie
 

@@ -1,12 +1,12 @@
 -- `record::bytes::write_sum` meets its contract: two stores behind what stands. Assumes nothing.
-use Rattle.record.specs.Records.{summed}
-use Rattle.lists.proofs.Parts.{last-two}
-use lib.Seq.{length-take-le}
-use lib.ListN.{length, length-set}
-use native.Mathlib.Omega.{arith}
-use Prim.Native.Nat.{_-_}
 use mathlib.Core.Path.{sym}
+use Prim.Native.Nat.{_-_}
+use native.Mathlib.Omega.{arith}
 use borrow.Author.Needs.{needs}
+use lib.ListN.{length, length-set}
+use lib.Seq.{length-take-le}
+use Rattle.lists.proofs.Parts.{last-two}
+use Rattle.record.specs.Records.{summed}
 use Rattle.record.proofs.bytes.write_sum.Statement.{statement}
 use Rattle.record.proofs.bytes.write_sum.Tie as tie
 

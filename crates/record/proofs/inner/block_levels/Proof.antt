@@ -1,12 +1,12 @@
 -- `record::inner::block_levels` meets its contract: one loop over the sixteen. Assumes nothing.
-use mir.ValLaws.{toZ-ofZ}
-use mir.Syntax.{w32}
 use mathlib.Core.Path.{_∙_}
-use Rattle.record.specs.Records.{levelIn, blockIn}
-use Rattle.lists.proofs.Tab.{Filling, filling-none, filling-more, filling-done}
-use native.Mathlib.Omega.{arith}
 use Prim.Native.Nat.{_-_}
+use native.Mathlib.Omega.{arith}
 use borrow.Author.Needs.{needs}
+use mir.Syntax.{w32}
+use mir.ValLaws.{toZ-ofZ}
+use Rattle.lists.proofs.Tab.{Filling, filling-none, filling-more, filling-done}
+use Rattle.record.specs.Records.{levelIn, blockIn}
 use Rattle.record.proofs.inner.block_levels.Statement.{statement}
 use Rattle.record.proofs.inner.block_levels.Tie as tie
 

@@ -1,10 +1,10 @@
 -- `record::inner::form` meets its contract: mark, number and sum, in that order. Assumes nothing.
-use Rattle.record.specs.Records.{macroblockMark, numberIn}
-use Rattle.record.specs.Numbers.{numberAt}
-use Rattle.record.proofs.Forms.{mark-wrong, number-wrong, sum-wrong, fine}
-use borrow.Author.Tests.{not-true, not-false}
 use mathlib.Core.Path.{_≡_, sym, _∙_}
 use borrow.Author.Needs.{needs}
+use borrow.Author.Tests.{not-true, not-false}
+use Rattle.record.specs.Numbers.{numberAt}
+use Rattle.record.specs.Records.{macroblockMark, numberIn}
+use Rattle.record.proofs.Forms.{mark-wrong, number-wrong, sum-wrong, fine}
 use Rattle.record.proofs.inner.form.Statement.{statement}
 use Rattle.record.proofs.inner.form.Tie as tie
 

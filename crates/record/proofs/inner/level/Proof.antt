@@ -1,9 +1,9 @@
 -- `record::inner::level` meets its contract: the level of the number at its place. Assumes nothing.
-use mir.ValLaws.{toZ-ofZ}
-use mir.Val.{toZ}
-use mir.Syntax.{w16, w32}
 use mathlib.Core.Path.{_∙_, ap}
 use borrow.Author.Needs.{needs}
+use mir.Syntax.{w16, w32}
+use mir.Val.{toZ}
+use mir.ValLaws.{toZ-ofZ}
 use Rattle.record.proofs.inner.level.Statement.{statement}
 use Rattle.record.proofs.inner.level.Tie as tie
 

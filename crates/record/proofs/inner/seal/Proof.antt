@@ -1,14 +1,14 @@
 -- `record::inner::seal` meets its contract: the front comes home before the levels, then the sum. Assumes nothing.
-use Rattle.record.specs.Records.{summed}
-use Rattle.lists.proofs.Parts.{part-home}
-use lib.Seq.{take-append-add}
-use lib.ListN.{length, take, drop, length-append, length-drop}
-use borrow.Rule.Slice.PartMut.{putMid}
-use native.Mathlib.Omega.{arith}
-use Prim.Native.Nat.{ℕ, _-_, _+_}
-use mathlib.Core.List.{List, _++_}
 use mathlib.Core.Path.{_≡_, ap, _∙_}
+use mathlib.Core.List.{List, _++_}
+use Prim.Native.Nat.{ℕ, _-_, _+_}
+use native.Mathlib.Omega.{arith}
 use borrow.Author.Needs.{needs}
+use borrow.Rule.Slice.PartMut.{putMid}
+use lib.ListN.{length, take, drop, length-append, length-drop}
+use lib.Seq.{take-append-add}
+use Rattle.lists.proofs.Parts.{part-home}
+use Rattle.record.specs.Records.{summed}
 use Rattle.record.proofs.inner.seal.Statement.{statement}
 use Rattle.record.proofs.inner.seal.Tie as tie
 

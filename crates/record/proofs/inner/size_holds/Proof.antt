@@ -1,6 +1,6 @@
 -- `record::inner::size_holds` meets its contract, test by test. Assumes nothing.
-use Rattle.record.specs.Entry.{sizeHolds}
 use borrow.Author.Tests.{le-leb, lt-leb}
+use Rattle.record.specs.Entry.{sizeHolds}
 use Rattle.record.proofs.inner.size_holds.Statement.{statement}
 use Rattle.record.proofs.inner.size_holds.Tie as tie
 

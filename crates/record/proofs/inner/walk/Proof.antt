@@ -1,15 +1,15 @@
 -- `record::inner::walk` meets its contract: the walk over the records passed stands at the place. Assumes nothing.
-use Rattle.record.proofs.Walks.{walk-more, walk-step, walk-stays}
-use Rattle.record.specs.declared.Form.{Form}
-use Rattle.lists.specs.Chain.{chain}
-use lib.ListN.{take, drop}
-use Rattle.lists.specs.Fold.{fold}
-use Rattle.record.specs.declared.Walk.the-variants.{Whole}
-use Rattle.record.specs.Faults.{formTests, formSaid, stepped, onward, walkOf}
-use native.Mathlib.Omega.{arith}
-use Prim.Native.Nat.{_+_, _-_, _*_, _≤_}
 use mathlib.Core.Path.{_≡_, sym, ap, _∙_}
+use Prim.Native.Nat.{_+_, _-_, _*_, _≤_}
+use native.Mathlib.Omega.{arith}
 use borrow.Author.Needs.{needs}
+use lib.ListN.{take, drop}
+use Rattle.lists.specs.Chain.{chain}
+use Rattle.lists.specs.Fold.{fold}
+use Rattle.record.specs.Faults.{formTests, formSaid, stepped, onward, walkOf}
+use Rattle.record.specs.declared.Form.{Form}
+use Rattle.record.specs.declared.Walk.the-variants.{Whole}
+use Rattle.record.proofs.Walks.{walk-more, walk-step, walk-stays}
 use Rattle.record.proofs.inner.walk.Statement.{statement}
 use Rattle.record.proofs.inner.walk.Tie as tie
 

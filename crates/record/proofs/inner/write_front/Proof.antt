@@ -1,15 +1,15 @@
 -- `record::inner::write_front` meets its contract: five stores, then a loop over the eight bytes of modes. Assumes nothing.
-use Rattle.record.proofs.Modes.{packed-more}
-use Rattle.record.specs.Records.{frontOf}
-use Rattle.record.specs.Modes.{packed}
-use Rattle.lists.proofs.Parts.{Growing, growing-all, growing-more, growing-done}
-use Rattle.lists.specs.Tab.{tab}
-use lib.ListN.{length, length-set}
-use native.Mathlib.Omega.{arith}
-use Prim.Native.Nat.{ℕ, _+_, _-_, _*_, _/_, _%_, _≤_}
-use mathlib.Core.List.{List, [], _∷_}
 use mathlib.Core.Path.{_≡_}
+use mathlib.Core.List.{List, [], _∷_}
+use Prim.Native.Nat.{ℕ, _+_, _-_, _*_, _/_, _%_, _≤_}
+use native.Mathlib.Omega.{arith}
 use borrow.Author.Needs.{needs}
+use lib.ListN.{length, length-set}
+use Rattle.lists.specs.Tab.{tab}
+use Rattle.lists.proofs.Parts.{Growing, growing-all, growing-more, growing-done}
+use Rattle.record.specs.Modes.{packed}
+use Rattle.record.specs.Records.{frontOf}
+use Rattle.record.proofs.Modes.{packed-more}
 use Rattle.record.proofs.inner.write_front.Statement.{statement}
 use Rattle.record.proofs.inner.write_front.Tie as tie
 

@@ -1,13 +1,13 @@
 -- `record::inner::write_head` meets its contract: six stores, then the sum. Assumes nothing.
-use Rattle.record.specs.Records.{summed, headOf}
-use Rattle.lists.proofs.Parts.{growing-all}
-use lib.Seq.{sets, length-sets}
-use lib.ListN.{length, take, length-set}
-use native.Mathlib.Omega.{arith}
-use Prim.Native.Nat.{ℕ, _-_, _/_, _%_}
-use mathlib.Core.List.{List, [], _∷_}
 use mathlib.Core.Path.{_≡_, ap, _∙_}
+use mathlib.Core.List.{List, [], _∷_}
+use Prim.Native.Nat.{ℕ, _-_, _/_, _%_}
+use native.Mathlib.Omega.{arith}
 use borrow.Author.Needs.{needs}
+use lib.ListN.{length, take, length-set}
+use lib.Seq.{sets, length-sets}
+use Rattle.lists.proofs.Parts.{growing-all}
+use Rattle.record.specs.Records.{summed, headOf}
 use Rattle.record.proofs.inner.write_head.Statement.{statement}
 use Rattle.record.proofs.inner.write_head.Tie as tie
 

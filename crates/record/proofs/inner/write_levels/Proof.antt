@@ -1,15 +1,15 @@
 -- `record::inner::write_levels` meets its contract: two stores a turn. Assumes nothing.
-use mir.ValLaws.{toZ-ofZ}
-use Rattle.record.proofs.Levels.{highAt, lowAt, levels-by-two}
-use Rattle.lists.proofs.Pairs.{Pairing, pairing-none, pairing-more, pairing-done}
-use lib.ListN.{length, getD, length-set}
+use mathlib.Core.Path.{_≡_, ap, _∙_}
+use Prim.Native.Nat.{_-_, _/_, _%_}
+use native.Mathlib.Omega.{arith}
+use borrow.Author.Needs.{needs}
 use lib.IntN.{pos}
+use lib.ListN.{length, getD, length-set}
 use mir.Syntax.{w16, w32}
 use mir.Val.{ofZ, toZ}
-use native.Mathlib.Omega.{arith}
-use Prim.Native.Nat.{_-_, _/_, _%_}
-use mathlib.Core.Path.{_≡_, ap, _∙_}
-use borrow.Author.Needs.{needs}
+use mir.ValLaws.{toZ-ofZ}
+use Rattle.lists.proofs.Pairs.{Pairing, pairing-none, pairing-more, pairing-done}
+use Rattle.record.proofs.Levels.{highAt, lowAt, levels-by-two}
 use Rattle.record.proofs.inner.write_levels.Statement.{statement}
 use Rattle.record.proofs.inner.write_levels.Tie as tie
 
