@@ -1,6 +1,6 @@
 -- Reading gives back what was written.
 --     sum-own                                                the sum at the end of a summed list holds
---     length-head, width-back, height-back, head-own         a head
+--     length-head, width-back, height-back, head-own, head-back     a head
 --     length-front, length-record, mark-back, number-back, qp-back, mode-back, level-back, block-back, form-own    a macroblock's record
 --     sealed, levels-parts                                   a record whose levels stood in their place already, block by block
 --     walk-own                                               the walk over records written one behind the other comes through
@@ -17,14 +17,16 @@ use lib.Seq.{take-at, getD-append-add, getD-take, getD-drop, length-take-le}
 use mir.Syntax.{w16}
 use mir.Val.{ofZ, toZ, SFits}
 use mir.ValLaws.{toZ-ofZ}
-use Rattle.lists.specs.Chain.{Verdict, pass, chain}
+use Rattle.lists.specs.Chain.{Verdict, pass, chain, written}
 use Rattle.lists.specs.Fold.{fold}
 use Rattle.lists.specs.Parts.{parts}
 use Rattle.lists.proofs.Fold.{fold-keeps}
 use Rattle.lists.proofs.Pairs.{getD-pairs}
 use Rattle.lists.proofs.Parts.{part-behind}
 use Rattle.lists.proofs.Tab.{tab-of}
-use Rattle.record.specs.Entry.{sizeHolds, headTests}
+use Rattle.refusal.proofs.Same.{says-same}
+use Rattle.refusal.specs.declared.Refusal.{Refusal}
+use Rattle.record.specs.Entry.{sizeHolds, widthAt, heightAt, headTests, ReadsHead}
 use Rattle.record.specs.Faults.{formTests, stepped, onward, walkOf}
 use Rattle.record.specs.Modes.{packed, unpaired}
 use Rattle.record.specs.Numbers.{bytesOf, numberAt, levelBytes}
@@ -32,9 +34,11 @@ use Rattle.record.specs.Records.{summed, sumHolds, headOf, headMark, mac
 use Rattle.record.specs.Sum.{recordSum}
 use Rattle.record.specs.declared.Fault.{Fault}
 use Rattle.record.specs.declared.Walk.the-variants.{Whole}
+use Rattle.record.specs.declared.Head.{Head}
+use Rattle.record.specs.declared.Head.the-variants.{Legal}
 use Rattle.record.specs.declared.Walk.{Walk}
 use Rattle.record.proofs.Forms.{fine}
-use Rattle.record.proofs.Heads.{head-legal}
+use Rattle.record.proofs.Heads.{head-legal, same-head}
 use Rattle.record.proofs.Levels.{highAt, lowAt, levels-append, length-levels, levels-by-two}
 use Rattle.record.proofs.Modes.{length-packed, packed-back}
 use Rattle.record.proofs.Walks.{number-drop, length-known}
@@ -96,6 +100,15 @@ module _ (width height : ℕ) where
     head-own s =
         head-legal (headOf width height ++ rest) (omega (arith, length-append (headOf width height) rest, length-head)) head-marked head-sums
         (rw (width-back, height-back) s)
+
+    -- what `read_head` answers, whatever its contract allows
+    pub head-back : sizeHolds width height ≡ true → (h : Head) → ReadsHead (headOf width height ++ rest) h → h ≡ Legal width height
+    head-back s h p =
+        let file = headOf width height ++ rest in
+        let e = head-own s in
+        same-head h (Legal width height) (says-same (p .says) ∙ e)
+        (p .width ∙ ap (λ (v : Verdict Refusal). written v (widthAt file) 0) e ∙ width-back)
+        (p .height ∙ ap (λ (v : Verdict Refusal). written v (heightAt file) 0) e ∙ height-back)
 
 -- ---- a macroblock's record
 
