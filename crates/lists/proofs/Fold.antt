@@ -1,5 +1,6 @@
 -- Laws of a loop over a state.
 --     fold-more, fold-keeps, fold-follow             one more turn; what each turn keeps; a loop that does what another does along its way
+--     fold-along                                     what two loops keep between them
 --     Folding: folding-none, folding-more, folding-done
 -- Assumes nothing.
 use mathlib.Core.Path.{_≡_, refl, sym, ap, _∙_}
@@ -7,6 +8,13 @@ use Prim.Native.Nat.{ℕ, zero, suc, _+_, _<_, _≤_, zero-le}
 use native.Mathlib.Numerals.{add-one}
 use native.Mathlib.Omega.{arith}
 use Rattle.lists.specs.Fold.{fold}
+
+pub fold-along : {A B : Type 0} (R : ℕ → A → B → Type 0) (n : ℕ) (f : ℕ → A → A) (g : ℕ → B → B) (a : A) (b : B) → R 0 a b
+    → ((k : ℕ) → k < n → R k (fold k f a) (fold k g b) → R (suc k) (f k (fold k f a)) (g k (fold k g b)))
+    → R n (fold n f a) (fold n g b)
+unfolding fold
+fold-along R zero f g a b r h = r
+fold-along R (suc n) f g a b r h = h n (omega arith) (fold-along R n f g a b r (λ k l. h k (omega arith)))
 
 module _ {A : Type 0} where
   pub fold-more : (n : ℕ) (f : ℕ → A → A) (a : A) → fold (n + 1) f a ≡ f n (fold n f a)
