@@ -1,0 +1,92 @@
+-- Blocks of n by n samples in a plane: a stored block is read back, and nothing else has changed.
+--     Room, within                 the block lies in the plane, and each of its samples
+--     sample-stored, sample-off    what stands in the block after it is stored, and at any other place
+--     read-stored                  the block that is read there is the one that was stored
+--     length-stored                a plane keeps its length
+--     room-of                      a block of the picture lies in its plane
+-- Assumes nothing.
+use mathlib.Core.Path.{_≡_, refl, sym, ap, _∙_}
+use mathlib.Core.List.{List}
+use Prim.Native.Nat.{ℕ, zero, suc, _+_, _*_, _/_, _%_, _<_, _≤_}
+use native.Mathlib.Nat.{mod-lt, div-add-mod', div-lt-iff-lt-mul, mul-le-mul-left, mul-le-mul-right}
+use native.Mathlib.Omega.{arith}
+use lib.Arith.{digits-lt, digits-div, digits-mod}
+use lib.ListN.{length, getD}
+use Rattle.lists.specs.Stores.{stores}
+use Rattle.lists.specs.Tab.{tab, grid, inRaster}
+use Rattle.lists.proofs.Stores.{length-stores, getD-stores-at, getD-stores-off}
+use Rattle.lists.proofs.Tab.{tab-of}
+use Rattle.picture.specs.declared.Layout.{Layout}
+use Rattle.picture.specs.Order.{columnIn, rowIn, columnOf, rowOf}
+use Rattle.picture.specs.Plane.{stride, samplesOf, sampleAt, blockAt, placeOf, stored}
+use Rattle.picture.proofs.Blocks.{inner-facts}
+
+-- the n by n samples from column x of row y on lie within a plane of that length, in rows of s
+pub record Room (n len s x y : ℕ) : Type 0 where
+  pub wide : x + n ≤ s
+  pub high : (y + n) * s ≤ len
+
+-- the digits of a place in the block
+side : (n k : ℕ) → k < n * n → 0 < n
+side zero k h = absurd (omega arith)
+side (suc n) k h = omega arith
+
+pub digit-column : (n k : ℕ) → k < n * n → k % n < n
+digit-column n k h = mod-lt k (side n k h)
+
+pub digit-row : (n k : ℕ) → k < n * n → k / n < n
+digit-row n k h = div-lt-iff-lt-mul (side n k h) .1 h
+
+same-digits : (n j k : ℕ) → j % n ≡ k % n → j / n ≡ k / n → j ≡ k
+same-digits n j k c r = sym (div-add-mod' j n) ∙ rw (c, r) (div-add-mod' k n)
+
+-- two places in rows of s samples are the same only in the same column and row
+cell : (s x y x′ y′ : ℕ) → x < s → x′ < s → y * s + x ≡ y′ * s + x′ → (x ≡ x′) × (y ≡ y′)
+cell s x y x′ y′ h h′ e =
+    (sym (digits-mod y h) ∙ ap (λ (n : ℕ). n % s) e ∙ digits-mod y′ h′, sym (digits-div y h) ∙ ap (λ (n : ℕ). n / s) e ∙ digits-div y′ h′)
+
+pub within : {n len s x y : ℕ} → Room n len s x y → (i j : ℕ) → i < n → j < n → (y + j) * s + (x + i) < len
+within {n} {len} {s} {x} {y} r i j hi hj =
+    omega (arith, r .high, digits-lt {q = y + j} {m = y + n} {r = x + i} {c = s} (omega arith) (omega (arith, r .wide)))
+
+-- the rows of a block have numbers that fit where its places do
+pub rows-fit : {n len s x y : ℕ} → 0 < n → Room n len s x y → y + n ≤ len
+rows-fit {n} {len} {s} {x} {y} h r = omega (arith, r .high, mul-le-mul-left (y + n) (let p : 1 ≤ s = omega (arith, r .wide) in p))
+
+module _ (n s x y : ℕ) (block plane : List ℕ) where
+  pub length-stored : length (stored n s x y block plane) ≡ length plane
+  unfolding stored
+  length-stored = length-stores (placeOf n s x y) (λ k. getD block k 0) (n * n) plane
+
+  pub sample-stored : Room n (length plane) s x y → (k : ℕ) → k < n * n → sampleAt s (stored n s x y block plane) (x + k % n) (y + k / n) ≡ getD block k 0
+  unfolding stored
+  sample-stored r k h =
+      getD-stores-at (placeOf n s x y) (λ j. getD block j 0) (n * n) plane k 0
+      (λ j l e.
+      let q = cell s (x + k % n) (y + k / n) (x + j % n) (y + j / n) (omega (arith, r .wide, digit-column n k h)) (omega (arith, r .wide, digit-column n j l)) e in
+      same-digits n j k (omega (arith, q .0)) (omega (arith, q .1)))
+      h (within r (k % n) (k / n) (digit-column n k h) (digit-row n k h))
+
+  pub sample-off : x + n ≤ s → (i j : ℕ) → i < s → ((a c : ℕ) → a < n → c < n → i ≡ x + a → j ≡ y + c → ⊥)
+      → sampleAt s (stored n s x y block plane) i j ≡ sampleAt s plane i j
+  unfolding stored
+  sample-off w i j h off =
+      getD-stores-off (placeOf n s x y) (λ k. getD block k 0) (n * n) plane (j * s + i) 0
+      (λ k l e.
+      let q = cell s i j (x + k % n) (y + k / n) h (omega (arith, digit-column n k l)) e in
+      off (k % n) (k / n) (digit-column n k l) (digit-row n k l) (q .0) (q .1))
+
+  pub read-stored : length block ≡ n * n → Room n (length plane) s x y → blockAt n s x y (stored n s x y block plane) ≡ block
+  unfolding blockAt grid
+  read-stored e r = tab-of (n * n) (inRaster n (λ i j. sampleAt s (stored n s x y block plane) (x + i) (y + j))) block 0 e (λ k h. sample-stored r k h)
+
+-- a block of the picture lies in its plane
+pub room-of : (l : Layout) (m b : ℕ) → 0 < l .width → m < l .width * l .height → b < 16 → Room 4 (samplesOf l) (stride l) (columnOf l m b) (rowOf l m b)
+unfolding columnOf rowOf
+room-of l m b some among block =
+    let f = inner-facts b block in
+    let r : m / l .width < l .height = div-lt-iff-lt-mul some .1 (omega arith) in
+    record {
+      wide = omega (arith, f .thin, mod-lt m some);
+      high = omega (arith, mul-le-mul-right (16 * l .width) (let e : 16 * (m / l .width) + 4 * rowIn b + 4 ≤ 16 * l .height = omega (arith, f .low) in e));
+    }
