@@ -1,4 +1,5 @@
 pub mod Blocks
+pub mod Byte
 pub mod Owner
 pub mod Plane
 pub mod Presence

@@ -3,7 +3,7 @@
 --     sample-stored, sample-off    what stands in the block after it is stored, and at any other place
 --     read-stored                  the block that is read there is the one that was stored
 --     length-stored                a plane keeps its length
---     room-of                      a block of the picture lies in its plane
+--     room-of, room-among          a block of the picture lies in its plane
 -- Assumes nothing.
 use mathlib.Core.Path.{_≡_, refl, sym, ap, _∙_}
 use mathlib.Core.List.{List}
@@ -17,7 +17,7 @@ use Rattle.lists.specs.Tab.{tab, grid, inRaster}
 use Rattle.lists.proofs.Stores.{length-stores, getD-stores-at, getD-stores-off}
 use Rattle.lists.proofs.Tab.{tab-of}
 use Rattle.picture.specs.declared.Layout.{Layout}
-use Rattle.picture.specs.Order.{columnIn, rowIn, columnOf, rowOf}
+use Rattle.picture.specs.Order.{Among, columnIn, rowIn, columnOf, rowOf}
 use Rattle.picture.specs.Plane.{stride, samplesOf, sampleAt, blockAt, placeOf, stored}
 use Rattle.picture.proofs.Blocks.{inner-facts}
 
@@ -90,3 +90,6 @@ room-of l m b some among block =
       wide = omega (arith, f .thin, mod-lt m some);
       high = omega (arith, mul-le-mul-right (16 * l .width) (let e : 16 * (m / l .width) + 4 * rowIn b + 4 ≤ 16 * l .height = omega (arith, f .low) in e));
     }
+
+pub room-among : {l : Layout} {m b : ℕ} → Among l m b → Room 4 (samplesOf l) (stride l) (columnOf l m b) (rowOf l m b)
+room-among {l} {m} {b} a = room-of l m b (a .sound .some) (a .macroblock) (a .block)
