@@ -1,5 +1,6 @@
 -- Presence as the code's functions take it, and the flags byte that is made of it.
 --     above-is, left-is, corner-is, upper-right-is     the tests of the code
+--     group-above, group-right, group-left     the samples of a group are present together
 --     flags-by         the byte by the first sample of each group
 --     flags-tell       the bit of a neighbour's group says whether the neighbour is present: presence alone decides
 --     flags-lt         no other bit is set
@@ -78,13 +79,13 @@ module _ {l : Layout} {m b : ℕ} (a : Among l m b) where
       → presentAt 4 l m b k ≡ presentAt 4 l m b g
   together k hk g hg e = cheaply k hk ∙ e ∙ sym (cheaply g hg)
 
-  group-above : (k : ℕ) → 0 < k → k ≤ 4 → presentAt 4 l m b k ≡ presentAt 4 l m b 1
+  pub group-above : (k : ℕ) → 0 < k → k ≤ 4 → presentAt 4 l m b k ≡ presentAt 4 l m b 1
   group-above k h1 h2 = together k (omega arith) 1 (omega arith) (rw (ne-eqb k 0 (λ e. omega arith), le-leb k 4 h2))
 
-  group-right : (k : ℕ) → 4 < k → k ≤ 8 → presentAt 4 l m b k ≡ presentAt 4 l m b 5
+  pub group-right : (k : ℕ) → 4 < k → k ≤ 8 → presentAt 4 l m b k ≡ presentAt 4 l m b 5
   group-right k h1 h2 = together k (omega arith) 5 (omega arith) (rw (ne-eqb k 0 (λ e. omega arith), lt-leb k 4 h1, le-leb k 8 h2))
 
-  group-left : (k : ℕ) → 8 < k → k < 13 → presentAt 4 l m b k ≡ presentAt 4 l m b 9
+  pub group-left : (k : ℕ) → 8 < k → k < 13 → presentAt 4 l m b k ≡ presentAt 4 l m b 9
   group-left k h1 h2 = together k (omega arith) 9 (omega arith) (rw (ne-eqb k 0 (λ e. omega arith), lt-leb k 4 (omega arith), lt-leb k 8 h1))
 
   pub flags-by : flagsOf l m b ≡ byteBy (presentAt 4 l m b 1) (presentAt 4 l m b 9) (presentAt 4 l m b 0) (presentAt 4 l m b 5)

@@ -4,6 +4,7 @@
 --     read-stored                  the block that is read there is the one that was stored
 --     length-stored                a plane keeps its length
 --     room-of, room-among          a block of the picture lies in its plane
+--     spot-in, block-by, stored-by     the same with places counted from the block's first, as the code takes them
 -- Assumes nothing.
 use mathlib.Core.Path.{_≡_, refl, sym, ap, _∙_}
 use mathlib.Core.List.{List}
@@ -14,10 +15,10 @@ use lib.Arith.{digits-lt, digits-div, digits-mod}
 use lib.ListN.{length, getD}
 use Rattle.lists.specs.Stores.{stores}
 use Rattle.lists.specs.Tab.{tab, grid, inRaster}
-use Rattle.lists.proofs.Stores.{length-stores, getD-stores-at, getD-stores-off}
-use Rattle.lists.proofs.Tab.{tab-of}
+use Rattle.lists.proofs.Stores.{length-stores, getD-stores-at, getD-stores-off, stores-same}
+use Rattle.lists.proofs.Tab.{tab-of, tab-same}
 use Rattle.picture.specs.declared.Layout.{Layout}
-use Rattle.picture.specs.Order.{Among, columnIn, rowIn, columnOf, rowOf}
+use Rattle.picture.specs.Order.{Sound, Among, columnIn, rowIn, columnOf, rowOf}
 use Rattle.picture.specs.Plane.{stride, samplesOf, sampleAt, blockAt, placeOf, stored}
 use Rattle.picture.proofs.Blocks.{inner-facts}
 
@@ -93,3 +94,28 @@ room-of l m b some among block =
 
 pub room-among : {l : Layout} {m b : ℕ} → Among l m b → Room 4 (samplesOf l) (stride l) (columnOf l m b) (rowOf l m b)
 room-among {l} {m} {b} a = room-of l m b (a .sound .some) (a .macroblock) (a .block)
+
+-- no place of a plane is too large
+pub samples-fit : {l : Layout} → Sound l → samplesOf l ≤ 4194304
+samples-fit {l} s = omega (arith, s .high, mul-le-mul-right (l .height) (s .wide))
+
+-- the places of a block, counted from its first
+pub from-first : (s x y i j : ℕ) → (y + j) * s + (x + i) ≡ y * s + x + j * s + i
+from-first s x y i j = omega arith
+
+module _ {l : Layout} {m b : ℕ} (a : Among l m b) where
+  pub spot-in : (i j : ℕ) → i < 4 → j < 4 → rowOf l m b * stride l + columnOf l m b + j * stride l + i < samplesOf l
+  spot-in i j hi hj = rw (from-first (stride l) (columnOf l m b) (rowOf l m b) i j) at (within (room-among a) i j hi hj)
+
+  pub first-in : rowOf l m b * stride l + columnOf l m b < samplesOf l
+  first-in = omega (arith, spot-in 0 0 (omega arith) (omega arith))
+
+-- a block that is read, and a plane with a block stored, by those places
+pub block-by : (n s x y : ℕ) (plane : List ℕ) → blockAt n s x y plane ≡ grid n (λ i j. getD plane (y * s + x + j * s + i) 0)
+unfolding blockAt grid
+block-by n s x y plane =
+    tab-same (n * n) _ _ (λ k h. ap (λ (place : ℕ). getD plane place 0) (from-first s x y (k % n) (k / n)))
+
+pub stored-by : (n s x y : ℕ) (block plane : List ℕ) → stored n s x y block plane ≡ stores (n * n) (λ k. y * s + x + k / n * s + k % n) (λ k. getD block k 0) plane
+unfolding stored
+stored-by n s x y block plane = stores-same (placeOf n s x y) (λ k. y * s + x + k / n * s + k % n) (λ k. getD block k 0) (n * n) plane (λ k h. from-first s x y (k % n) (k / n))

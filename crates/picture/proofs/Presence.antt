@@ -62,7 +62,7 @@ number-at l c r u v i j x y hu hv hi hj ex ey =
     rw (a, b, d, e)
 
 -- the row of macroblocks above
-row-up : (r w : ℕ) → 0 < r → r * w ≡ (r - 1) * w + w
+pub row-up : (r w : ℕ) → 0 < r → r * w ≡ (r - 1) * w + w
 row-up r w h =
     let z : r ≡ r - 1 + 1 = omega arith in
     let q : (r - 1 + 1) * w ≡ (r - 1) * w + w = omega arith in
