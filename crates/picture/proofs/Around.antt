@@ -14,8 +14,9 @@ use Rattle.lists.specs.Tab.{tab}
 use Rattle.lists.proofs.Tab.{tab-same}
 use Rattle.picture.specs.declared.Layout.{Layout}
 use Rattle.picture.specs.Order.{Among, columnOf, rowOf, numberOf}
-use Rattle.picture.specs.Plane.{stride, samplesOf, sampleAt, Behind, neighbour, gathered}
+use Rattle.picture.specs.Plane.{stride, samplesOf, neighbour, gathered}
 use Rattle.picture.specs.Presence.{presentAt, neighbourColumn, neighbourRow}
+use Rattle.picture.specs.Reach.{Behind}
 use Rattle.picture.proofs.Byte.{group-above, group-right, group-left}
 use Rattle.picture.proofs.Plane.{room-among, spot-in}
 use Rattle.picture.proofs.Presence.{Present, present-is, row-up}

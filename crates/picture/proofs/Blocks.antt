@@ -35,15 +35,11 @@ unfolding rowIn placeIn blockTable first
 row-code b h = eqb→eq _ _ (every-at 16 (λ i. eqb (i / 2 % 2 + 2 * (i / 8)) (rowIn i)) tt b h)
 
 -- the blocks whose upper right comes before them where it lies in the picture: the code's table
-abbrev pub earlyTable : List Bool
-earlyTable =
-    true ∷ true ∷ true ∷ false
-    ∷ true ∷ true ∷ true ∷ false
-    ∷ true ∷ true ∷ true ∷ false
-    ∷ true ∷ false ∷ true ∷ false ∷ []
+abbrev pub earlyTable : List ℕ
+earlyTable = 1 ∷ 1 ∷ 1 ∷ 0 ∷ 1 ∷ 1 ∷ 1 ∷ 0 ∷ 1 ∷ 1 ∷ 1 ∷ 0 ∷ 1 ∷ 0 ∷ 1 ∷ 0 ∷ []
 
 unfoldable pub early : ℕ → Bool
-early b = getD earlyTable b false
+early b = eqb (getD earlyTable b 0) 1
 
 -- block b in column u and row v of its macroblock; e says whether its upper right comes earlier
 pub record Inner (u v b : ℕ) (e : Bool) : Type 0 where

@@ -6,3 +6,4 @@ pub mod Plane
 pub mod Presence
 pub mod Start
 pub mod Unique
+pub mod Witness

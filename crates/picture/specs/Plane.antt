@@ -1,9 +1,8 @@
 -- "A plane is its raster rows without gaps, 256*width*height bytes" (01, "Plane and record file"): blocks of n by n samples read from
 -- it and stored into it, and the neighbours of a block. Assumes nothing.
-use mathlib.Core.Bool.{Bool, true, cond}
+use mathlib.Core.Bool.{cond}
 use mathlib.Core.List.{List}
-use mathlib.Core.Path.{_≡_}
-use Prim.Native.Nat.{ℕ, _+_, _*_, _-_, _/_, _%_, _<_, _≤_}
+use Prim.Native.Nat.{ℕ, _+_, _*_, _-_, _/_, _%_}
 use lib.ListN.{getD}
 use Rattle.lists.specs.Fold.{fold}
 use Rattle.lists.specs.Stores.{stores}
@@ -22,11 +21,6 @@ samplesOf l = 256 * (l .width * l .height)
 -- the sample in column x of row y, in rows of s samples
 abbrev pub sampleAt : (s : ℕ) → List ℕ → (x y : ℕ) → ℕ
 sampleAt s plane x y = getD plane (y * s + x) 0
-
--- count places, the first `back` before place `at` and each `step` behind the one before, lie in a plane of that length if they are present
-pub record Behind (present : Bool) (count step at back len : ℕ) : Type 0 where
-  pub before : present ≡ true → back ≤ at
-  pub within : present ≡ true → at - back + (count - 1) * step < len
 
 -- the n by n samples from column x of row y on, in raster order
 unfoldable pub blockAt : (n s x y : ℕ) → List ℕ → List ℕ

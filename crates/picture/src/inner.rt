@@ -5,29 +5,13 @@ ghost use Prim.Native.Nat.{_+_, _*_, _-_, _/_, _%_, _≤_};
 ghost use lib.ListN.{length, getD};
 ghost use Rattle.lists.specs.Tab.{tab};
 ghost use Rattle.picture.specs.Order.{Among, rowIn, columnOf, rowOf};
-ghost use Rattle.picture.specs.Plane.{stride, samplesOf, Behind, blockOf, withBlock, gathered};
+ghost use Rattle.picture.specs.Plane.{stride, samplesOf, blockOf, withBlock, gathered};
 ghost use Rattle.picture.specs.Presence.{presentAt, flagsOf};
+ghost use Rattle.picture.specs.Reach.{Behind};
 use crate::Layout;
 
 // The blocks whose upper right comes before them where it lies in the picture: all but 3, 7, 11, 13, 15.
-const EARLY: [bool; 16] = [
-    true,
-    true,
-    true,
-    false,
-    true,
-    true,
-    true,
-    false,
-    true,
-    true,
-    true,
-    false,
-    true,
-    false,
-    true,
-    false,
-];
+const EARLY: [u8; 16] = [1, 1, 1, 0, 1, 1, 1, 0, 1, 1, 1, 0, 1, 0, 1, 0];
 
 // The column of the first sample of block b of macroblock m.
 pub fn column(layout: Layout, m: usize, b: usize) -> usize
@@ -88,7 +72,7 @@ fn has_upper_right(layout: Layout, m: usize, b: usize) -> bool
 {
     if has_above(layout, m, b) {
         if column(layout, m, b) + 8 <= 16 * layout.width {
-            EARLY[b]
+            EARLY[b] == 1
         } else {
             false
         }

@@ -30,7 +30,7 @@ add-result-2 c = omega (arith, mod-lt (c .before .args .m) (c .before .pre .soun
 
 returns : tie.Need-returns
 unfolding columnOf
-returns c = rw (column-code (c .before .args .b) (c .before .pre .block))
+returns c = omega (arith, column-code (c .before .args .b) (c .before .pre .block))
 
 pub column-spec : {M : Type 1} → statement M
 column-spec =

@@ -28,7 +28,7 @@ add-result-2 c = omega (arith, row-in-height (c .before .pre))
 
 returns : tie.Need-returns
 unfolding rowOf
-returns c = rw (row-code (c .before .args .b) (c .before .pre .block))
+returns c = omega (arith, row-code (c .before .args .b) (c .before .pre .block))
 
 pub row-spec : {M : Type 1} → statement M
 row-spec =

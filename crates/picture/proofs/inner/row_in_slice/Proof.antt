@@ -32,7 +32,7 @@ add-result-2 : tie.Need-add-result-2
 add-result-2 c = omega (arith, row-in-height (c .before .before .pre), one-slice (c .before .before .pre))
 
 returns : tie.Need-returns
-returns c = rw (row-code (c .before .before .args .b) (c .before .before .pre .block))
+returns c = omega (arith, row-code (c .before .before .args .b) (c .before .before .pre .block))
 
 pub row-in-slice-spec : {M : Type 1} → statement M
 row-in-slice-spec =
