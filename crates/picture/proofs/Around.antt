@@ -2,37 +2,36 @@
 --     reach-corner, reach-above, reach-right, reach-left     a group that is present lies in the plane
 --     gathered-parts     the neighbours, group by group
 -- Assumes nothing.
-use mathlib.Core.Path.{_≡_, refl, sym, ap, _∙_}
+use mathlib.Core.Path.{_≡_, refl, _∙_}
 use mathlib.Core.Bool.{Bool, true, false, cond}
 use mathlib.Core.List.{List, [], _∷_, _++_}
 use Prim.Native.Nat.{ℕ, _+_, _*_, _-_, _<_, _≤_}
 use native.Mathlib.Omega.{arith}
 use borrow.Author.Tests.{le-leb, lt-leb}
-use lib.Dec.{leb}
 use lib.ListN.{getD}
 use Rattle.lists.specs.Tab.{tab}
 use Rattle.lists.proofs.Tab.{tab-same}
 use Rattle.picture.specs.declared.Layout.{Layout}
-use Rattle.picture.specs.Order.{Among, columnOf, rowOf, numberOf}
+use Rattle.picture.specs.Order.{Among, blockColumn, blockRow, orderOf}
 use Rattle.picture.specs.Plane.{stride, samplesOf, neighbour, gathered}
 use Rattle.picture.specs.Presence.{presentAt, neighbourColumn, neighbourRow}
 use Rattle.picture.specs.Reach.{Behind}
 use Rattle.picture.proofs.Byte.{group-above, group-right, group-left}
-use Rattle.picture.proofs.Plane.{room-among, spot-in}
+use Rattle.picture.proofs.Plane.{spot-in}
 use Rattle.picture.proofs.Presence.{Present, present-is, row-up}
 
 -- the place of the block's first sample
 abbrev firstPlace : Layout → (m b : ℕ) → ℕ
-firstPlace l m b = rowOf l m b * stride l + columnOf l m b
+firstPlace l m b = blockRow l m b * stride l + blockColumn l m b
 
 -- what a neighbour's presence says of the block
-seen : (l : Layout) (m b k : ℕ) → presentAt 4 l m b k ≡ true → Present l (numberOf m b) (neighbourColumn 4 (columnOf l m b) k) (neighbourRow 4 (rowOf l m b) k)
+seen : (l : Layout) (m b k : ℕ) → presentAt 4 l m b k ≡ true → Present l (orderOf m b) (neighbourColumn 4 (blockColumn l m b) k) (neighbourRow 4 (blockRow l m b) k)
 unfolding presentAt
-seen l m b k e = present-is l (numberOf m b) (neighbourColumn 4 (columnOf l m b) k) (neighbourRow 4 (rowOf l m b) k) e
+seen l m b k e = present-is l (orderOf m b) (neighbourColumn 4 (blockColumn l m b) k) (neighbourRow 4 (blockRow l m b) k) e
 
 -- a neighbour by its place, where it is present
 by-place : (l : Layout) (m b : ℕ) (plane : List ℕ) (k : ℕ) (t : Bool) (place : ℕ) → presentAt 4 l m b k ≡ t
-    → (t ≡ true → (neighbourRow 4 (rowOf l m b) k - 1) * stride l + (neighbourColumn 4 (columnOf l m b) k - 1) ≡ place)
+    → (t ≡ true → (neighbourRow 4 (blockRow l m b) k - 1) * stride l + (neighbourColumn 4 (blockColumn l m b) k - 1) ≡ place)
     → neighbour 4 l m b plane k ≡ cond t (getD plane place 0) 0
 unfolding neighbour
 by-place l m b plane k true place e h = rw (e, h refl)
@@ -49,10 +48,10 @@ in-groups l m b plane = refl
 
 module _ {l : Layout} {m b : ℕ} (a : Among l m b) where
   -- a present group has a row above, or a column at the left
-  row-above : (k : ℕ) → k ≤ 8 → presentAt 4 l m b k ≡ true → rowOf l m b * stride l ≡ (rowOf l m b - 1) * stride l + stride l
-  row-above k h e = row-up (rowOf l m b) (stride l) (rw (le-leb k 8 h) at (seen l m b k e .up))
+  row-above : (k : ℕ) → k ≤ 8 → presentAt 4 l m b k ≡ true → blockRow l m b * stride l ≡ (blockRow l m b - 1) * stride l + stride l
+  row-above k h e = row-up (blockRow l m b) (stride l) (rw (le-leb k 8 h) at (seen l m b k e .up))
 
-  left-of : (k : ℕ) → 8 < k → presentAt 4 l m b k ≡ true → 0 < columnOf l m b
+  left-of : (k : ℕ) → 8 < k → presentAt 4 l m b k ≡ true → 0 < blockColumn l m b
   left-of k h e = rw (lt-leb k 8 h) at (seen l m b k e .left)
 
   pub reach-corner : Behind (presentAt 4 l m b 0) 1 0 (firstPlace l m b) (stride l + 1) (samplesOf l)
@@ -97,7 +96,7 @@ module _ {l : Layout} {m b : ℕ} (a : Among l m b) where
     left-place i h =
         by-place l m b plane (9 + i) (presentAt 4 l m b 9) _ (group-left a (9 + i) (omega arith) (omega arith))
         (λ e.
-        let z : rowOf l m b + (9 + i - 8) - 1 ≡ rowOf l m b + i = omega arith in
+        let z : blockRow l m b + (9 + i - 8) - 1 ≡ blockRow l m b + i = omega arith in
         rw (lt-leb (9 + i) 8 (omega arith), z) (omega (arith, left-of 9 (omega arith) e)))
 
     pub gathered-parts : gathered 4 l m b plane

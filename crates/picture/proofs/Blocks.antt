@@ -3,7 +3,7 @@
 --     column-code, row-code     the column and the row of a block by the digits of its number, as the code takes them
 --     Inner, inner-facts        which of a block's neighbours in its macroblock come earlier
 -- Assumes nothing.
-use mathlib.Core.Path.{_≡_, sym, ap, _∙_}
+use mathlib.Core.Path.{_≡_}
 use mathlib.Core.Bool.{Bool, true, false, _||_, Bool·beq}
 use mathlib.Core.List.{List, [], _∷_}
 use Prim.Native.Nat.{ℕ, _+_, _*_, _-_, _/_, _%_, _<_, _≤_}
@@ -13,25 +13,25 @@ use lib.Dec.{T, eqb, leb, ltb, eqb→eq, ltb→lt}
 use lib.ListN.{getD}
 use Rattle.lists.specs.First.{first}
 use Rattle.lists.proofs.Every.{every-at, either, holds}
-use Rattle.picture.specs.Order.{blockTable, blockIn, placeIn, columnIn, rowIn}
+use Rattle.picture.specs.Order.{blockTable, blockIn, tablePlace, columnIn, rowIn}
 
 pub block-lt : (u v : ℕ) → u < 4 → v < 4 → blockIn u v < 16
 unfolding blockIn blockTable
 block-lt u v hu hv = ltb→lt _ _ (every-at 16 (λ k. ltb (getD blockTable k 0) 16) tt (4 * v + u) (omega arith))
 
 pub table-permutes : (u v : ℕ) → u < 4 → v < 4 → (columnIn (blockIn u v) ≡ u) × (rowIn (blockIn u v) ≡ v)
-unfolding columnIn rowIn placeIn blockIn blockTable first
+unfolding columnIn rowIn tablePlace blockIn blockTable first
 table-permutes u v hu hv =
     let k = 4 * v + u in
-    let e : placeIn (getD blockTable (4 * v + u) 0) ≡ 4 * v + u = eqb→eq _ _ (every-at 16 (λ i. eqb (placeIn (getD blockTable i 0)) i) tt (4 * v + u) (omega arith)) in
+    let e : tablePlace (getD blockTable (4 * v + u) 0) ≡ 4 * v + u = eqb→eq _ _ (every-at 16 (λ i. eqb (tablePlace (getD blockTable i 0)) i) tt (4 * v + u) (omega arith)) in
     (rw e (omega arith), rw e (omega arith))
 
 pub column-code : (b : ℕ) → b < 16 → b % 2 + 2 * (b / 4 % 2) ≡ columnIn b
-unfolding columnIn placeIn blockTable first
+unfolding columnIn tablePlace blockTable first
 column-code b h = eqb→eq _ _ (every-at 16 (λ i. eqb (i % 2 + 2 * (i / 4 % 2)) (columnIn i)) tt b h)
 
 pub row-code : (b : ℕ) → b < 16 → b / 2 % 2 + 2 * (b / 8) ≡ rowIn b
-unfolding rowIn placeIn blockTable first
+unfolding rowIn tablePlace blockTable first
 row-code b h = eqb→eq _ _ (every-at 16 (λ i. eqb (i / 2 % 2 + 2 * (i / 8)) (rowIn i)) tt b h)
 
 -- the blocks whose upper right comes before them where it lies in the picture: the code's table
@@ -63,7 +63,7 @@ some : (n : ℕ) → 0 < n → eqb n 0 ≡ false
 some n h = ne-eqb n 0 (λ e. omega arith)
 
 pub inner-facts : (b : ℕ) → b < 16 → Inner (columnIn b) (rowIn b) b (early b)
-unfolding columnIn rowIn placeIn blockIn blockTable first early
+unfolding columnIn rowIn tablePlace blockIn blockTable first early
 inner-facts b h = record {
   thin = ltb→lt _ _ (every-at 16 (λ i. ltb (columnIn i) 4) tt b h);
   low = ltb→lt _ _ (every-at 16 (λ i. ltb (rowIn i) 4) tt b h);

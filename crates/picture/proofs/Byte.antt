@@ -14,8 +14,8 @@ use borrow.Author.Tests.{eqb-true, eqb-false, leb-true, leb-false, le-leb, lt-le
 use lib.Dec.{eqb, leb, ltb}
 use Rattle.lists.proofs.Every.{every-same}
 use Rattle.picture.specs.declared.Layout.{Layout}
-use Rattle.picture.specs.Order.{Among, rowIn, columnOf, rowOf}
-use Rattle.picture.specs.Presence.{presentAt, allPresent, flagsOf}
+use Rattle.picture.specs.Order.{Among, rowIn, blockColumn, blockRow}
+use Rattle.picture.specs.Presence.{presentAt, flagsOf}
 use Rattle.picture.proofs.Blocks.{early}
 use Rattle.picture.proofs.Presence.{cheap, presence}
 
@@ -58,24 +58,24 @@ module _ {l : Layout} {m b : ℕ} (a : Among l m b) where
   pub one-slice : m / l .width % l .rows ≡ m / l .width
   one-slice = mod-eq-of-lt (rw (a .sound .whole) row-in-height)
 
-  cheaply : (k : ℕ) → k < 13 → presentAt 4 l m b k ≡ cheap (16 * l .width) (columnOf l m b) (rowOf l m b) b k
+  cheaply : (k : ℕ) → k < 13 → presentAt 4 l m b k ≡ cheap (16 * l .width) (blockColumn l m b) (blockRow l m b) b k
   cheaply k h = presence l m b (a .sound .some) (a .macroblock) (a .block) k h
 
   pub above-is : presentAt 4 l m b 1 ≡ ltb 0 (16 * (m / l .width % l .rows) + 4 * rowIn b)
-  unfolding rowOf
+  unfolding blockRow
   above-is = rw one-slice (cheaply 1 (omega arith))
 
-  pub left-is : presentAt 4 l m b 9 ≡ ltb 0 (columnOf l m b)
+  pub left-is : presentAt 4 l m b 9 ≡ ltb 0 (blockColumn l m b)
   left-is = cheaply 9 (omega arith)
 
   pub corner-is : presentAt 4 l m b 0 ≡ (presentAt 4 l m b 1 && presentAt 4 l m b 9)
   corner-is = rw (cheaply 0 (omega arith), cheaply 1 (omega arith), cheaply 9 (omega arith))
 
-  pub upper-right-is : presentAt 4 l m b 5 ≡ (presentAt 4 l m b 1 && (leb (columnOf l m b + 8) (16 * l .width) && early b))
+  pub upper-right-is : presentAt 4 l m b 5 ≡ (presentAt 4 l m b 1 && (leb (blockColumn l m b + 8) (16 * l .width) && early b))
   upper-right-is = rw (cheaply 5 (omega arith), cheaply 1 (omega arith))
 
   -- the samples of a group are present together
-  together : (k : ℕ) → k < 13 → (g : ℕ) → g < 13 → cheap (16 * l .width) (columnOf l m b) (rowOf l m b) b k ≡ cheap (16 * l .width) (columnOf l m b) (rowOf l m b) b g
+  together : (k : ℕ) → k < 13 → (g : ℕ) → g < 13 → cheap (16 * l .width) (blockColumn l m b) (blockRow l m b) b k ≡ cheap (16 * l .width) (blockColumn l m b) (blockRow l m b) b g
       → presentAt 4 l m b k ≡ presentAt 4 l m b g
   together k hk g hg e = cheaply k hk ∙ e ∙ sym (cheaply g hg)
 

@@ -6,7 +6,7 @@
 --     room-of, room-among          a block of the picture lies in its plane
 --     spot-in, block-by, stored-by     the same with places counted from the block's first, as the code takes them
 -- Assumes nothing.
-use mathlib.Core.Path.{_≡_, refl, sym, ap, _∙_}
+use mathlib.Core.Path.{_≡_, sym, ap, _∙_}
 use mathlib.Core.List.{List}
 use Prim.Native.Nat.{ℕ, zero, suc, _+_, _*_, _/_, _%_, _<_, _≤_}
 use native.Mathlib.Nat.{mod-lt, div-add-mod', div-lt-iff-lt-mul, mul-le-mul-left, mul-le-mul-right}
@@ -14,12 +14,12 @@ use native.Mathlib.Omega.{arith}
 use lib.Arith.{digits-lt, digits-div, digits-mod}
 use lib.ListN.{length, getD}
 use Rattle.lists.specs.Stores.{stores}
-use Rattle.lists.specs.Tab.{tab, grid, inRaster}
+use Rattle.lists.specs.Tab.{grid, inRaster}
 use Rattle.lists.proofs.Stores.{length-stores, getD-stores-at, getD-stores-off, stores-same}
 use Rattle.lists.proofs.Tab.{tab-of, tab-same}
 use Rattle.picture.specs.declared.Layout.{Layout}
-use Rattle.picture.specs.Order.{Sound, Among, columnIn, rowIn, columnOf, rowOf}
-use Rattle.picture.specs.Plane.{stride, samplesOf, sampleAt, blockAt, placeOf, stored}
+use Rattle.picture.specs.Order.{Sound, Among, rowIn, blockColumn, blockRow}
+use Rattle.picture.specs.Plane.{stride, samplesOf, sampleAt, blockAt, samplePlace, stored}
 use Rattle.picture.proofs.Blocks.{inner-facts}
 
 -- the n by n samples from column x of row y on lie within a plane of that length, in rows of s
@@ -57,12 +57,12 @@ rows-fit {n} {len} {s} {x} {y} h r = omega (arith, r .high, mul-le-mul-left (y +
 module _ (n s x y : ℕ) (block plane : List ℕ) where
   pub length-stored : length (stored n s x y block plane) ≡ length plane
   unfolding stored
-  length-stored = length-stores (placeOf n s x y) (λ k. getD block k 0) (n * n) plane
+  length-stored = length-stores (samplePlace n s x y) (λ k. getD block k 0) (n * n) plane
 
   pub sample-stored : Room n (length plane) s x y → (k : ℕ) → k < n * n → sampleAt s (stored n s x y block plane) (x + k % n) (y + k / n) ≡ getD block k 0
   unfolding stored
   sample-stored r k h =
-      getD-stores-at (placeOf n s x y) (λ j. getD block j 0) (n * n) plane k 0
+      getD-stores-at (samplePlace n s x y) (λ j. getD block j 0) (n * n) plane k 0
       (λ j l e.
       let q = cell s (x + k % n) (y + k / n) (x + j % n) (y + j / n) (omega (arith, r .wide, digit-column n k h)) (omega (arith, r .wide, digit-column n j l)) e in
       same-digits n j k (omega (arith, q .0)) (omega (arith, q .1)))
@@ -72,7 +72,7 @@ module _ (n s x y : ℕ) (block plane : List ℕ) where
       → sampleAt s (stored n s x y block plane) i j ≡ sampleAt s plane i j
   unfolding stored
   sample-off w i j h off =
-      getD-stores-off (placeOf n s x y) (λ k. getD block k 0) (n * n) plane (j * s + i) 0
+      getD-stores-off (samplePlace n s x y) (λ k. getD block k 0) (n * n) plane (j * s + i) 0
       (λ k l e.
       let q = cell s i j (x + k % n) (y + k / n) h (omega (arith, digit-column n k l)) e in
       off (k % n) (k / n) (digit-column n k l) (digit-row n k l) (q .0) (q .1))
@@ -82,8 +82,8 @@ module _ (n s x y : ℕ) (block plane : List ℕ) where
   read-stored e r = tab-of (n * n) (inRaster n (λ i j. sampleAt s (stored n s x y block plane) (x + i) (y + j))) block 0 e (λ k h. sample-stored r k h)
 
 -- a block of the picture lies in its plane
-pub room-of : (l : Layout) (m b : ℕ) → 0 < l .width → m < l .width * l .height → b < 16 → Room 4 (samplesOf l) (stride l) (columnOf l m b) (rowOf l m b)
-unfolding columnOf rowOf
+pub room-of : (l : Layout) (m b : ℕ) → 0 < l .width → m < l .width * l .height → b < 16 → Room 4 (samplesOf l) (stride l) (blockColumn l m b) (blockRow l m b)
+unfolding blockColumn blockRow
 room-of l m b some among block =
     let f = inner-facts b block in
     let r : m / l .width < l .height = div-lt-iff-lt-mul some .1 (omega arith) in
@@ -92,7 +92,7 @@ room-of l m b some among block =
       high = omega (arith, mul-le-mul-right (16 * l .width) (let e : 16 * (m / l .width) + 4 * rowIn b + 4 ≤ 16 * l .height = omega (arith, f .low) in e));
     }
 
-pub room-among : {l : Layout} {m b : ℕ} → Among l m b → Room 4 (samplesOf l) (stride l) (columnOf l m b) (rowOf l m b)
+pub room-among : {l : Layout} {m b : ℕ} → Among l m b → Room 4 (samplesOf l) (stride l) (blockColumn l m b) (blockRow l m b)
 room-among {l} {m} {b} a = room-of l m b (a .sound .some) (a .macroblock) (a .block)
 
 -- no place of a plane is too large
@@ -104,10 +104,10 @@ pub from-first : (s x y i j : ℕ) → (y + j) * s + (x + i) ≡ y * s + x + j *
 from-first s x y i j = omega arith
 
 module _ {l : Layout} {m b : ℕ} (a : Among l m b) where
-  pub spot-in : (i j : ℕ) → i < 4 → j < 4 → rowOf l m b * stride l + columnOf l m b + j * stride l + i < samplesOf l
-  spot-in i j hi hj = rw (from-first (stride l) (columnOf l m b) (rowOf l m b) i j) at (within (room-among a) i j hi hj)
+  pub spot-in : (i j : ℕ) → i < 4 → j < 4 → blockRow l m b * stride l + blockColumn l m b + j * stride l + i < samplesOf l
+  spot-in i j hi hj = rw (from-first (stride l) (blockColumn l m b) (blockRow l m b) i j) at (within (room-among a) i j hi hj)
 
-  pub first-in : rowOf l m b * stride l + columnOf l m b < samplesOf l
+  pub first-in : blockRow l m b * stride l + blockColumn l m b < samplesOf l
   first-in = omega (arith, spot-in 0 0 (omega arith) (omega arith))
 
 -- a block that is read, and a plane with a block stored, by those places
@@ -118,4 +118,4 @@ block-by n s x y plane =
 
 pub stored-by : (n s x y : ℕ) (block plane : List ℕ) → stored n s x y block plane ≡ stores (n * n) (λ k. y * s + x + k / n * s + k % n) (λ k. getD block k 0) plane
 unfolding stored
-stored-by n s x y block plane = stores-same (placeOf n s x y) (λ k. y * s + x + k / n * s + k % n) (λ k. getD block k 0) (n * n) plane (λ k h. from-first s x y (k % n) (k / n))
+stored-by n s x y block plane = stores-same (samplePlace n s x y) (λ k. y * s + x + k / n * s + k % n) (λ k. getD block k 0) (n * n) plane (λ k h. from-first s x y (k % n) (k / n))

@@ -1,7 +1,7 @@
 -- The paper's rule of presence is the code's cheap tests: is there a row above, a column at the left, and does the upper right, where it
 -- lies in the picture, come earlier.
 --     present-is, is-present     what it means to be present
---     number-at                  the number of a sample's block, by its digits
+--     order-at                  the number of a sample's block, by its digits
 --     presence                   the theorem, at all macroblocks and blocks of a picture of any size
 --     upper-right-missing        E-H are missing for blocks 3, 7, 11, 13 and 15
 --     upper-right-of-five        block 5's E-H lie in the macroblock above right
@@ -18,7 +18,7 @@ use lib.ListN.{getD}
 use Rattle.lists.specs.First.{first}
 use Rattle.lists.proofs.Every.{both-true, same-test, every-at, holds}
 use Rattle.picture.specs.declared.Layout.{Layout}
-use Rattle.picture.specs.Order.{blockTable, blockIn, placeIn, columnIn, rowIn, columnOf, rowOf, numberAt}
+use Rattle.picture.specs.Order.{blockTable, blockIn, tablePlace, columnIn, rowIn, blockColumn, blockRow, orderAt}
 use Rattle.picture.specs.Presence.{present, presentAt, neighbourColumn, neighbourRow}
 use Rattle.picture.proofs.Blocks.{Inner, inner-facts, block-lt, early}
 
@@ -28,7 +28,7 @@ pub record Present (l : Layout) (number X Y : ℕ) : Type 0 where
   pub right : X ≤ 16 * l .width
   pub up : 0 < Y
   pub down : Y ≤ 16 * l .height
-  pub earlier : numberAt l (X - 1) (Y - 1) < number
+  pub earlier : orderAt l (X - 1) (Y - 1) < number
 
 pub present-is : (l : Layout) (number X Y : ℕ) → present l number X Y ≡ true → Present l number X Y
 unfolding present
@@ -47,14 +47,14 @@ is-present l number X Y p =
       le-leb X (16 * l .width) (p .right),
       lt-ltb 0 Y (p .up),
       le-leb Y (16 * l .height) (p .down),
-      lt-ltb (numberAt l (X - 1) (Y - 1)) number (p .earlier),
+      lt-ltb (orderAt l (X - 1) (Y - 1)) number (p .earlier),
     )
 
 -- sample (i, j) of the block in column u and row v of the macroblock in column c and row r
-pub number-at : (l : Layout) (c r u v i j x y : ℕ) → u < 4 → v < 4 → i < 4 → j < 4 → x ≡ 16 * c + 4 * u + i → y ≡ 16 * r + 4 * v + j
-    → numberAt l x y ≡ 16 * (r * l .width + c) + blockIn u v
-unfolding numberAt
-number-at l c r u v i j x y hu hv hi hj ex ey =
+pub order-at : (l : Layout) (c r u v i j x y : ℕ) → u < 4 → v < 4 → i < 4 → j < 4 → x ≡ 16 * c + 4 * u + i → y ≡ 16 * r + 4 * v + j
+    → orderAt l x y ≡ 16 * (r * l .width + c) + blockIn u v
+unfolding orderAt
+order-at l c r u v i j x y hu hv hi hj ex ey =
     let a : x / 16 ≡ c = omega arith in
     let b : y / 16 ≡ r = omega arith in
     let d : x / 4 % 4 ≡ u = omega arith in
@@ -75,23 +75,23 @@ ltb-shift a x y =
     (λ q. lt-ltb (a + x) (a + y) (omega (arith, ltb-true x y q)))
 
 fifth : (columnIn 5 ≡ 3) × (rowIn 5 ≡ 0)
-unfolding columnIn rowIn placeIn blockTable first
+unfolding columnIn rowIn tablePlace blockTable first
 fifth = (refl, refl)
 
 -- block b in column u and row v of the macroblock in column c and row r
 module _ (l : Layout) (c r u v b : ℕ) (e : Bool) (hc : c < l .width) (hr : r < l .height) (f : Inner u v b e) where
   -- A-D: the row above, for the four columns of the block
-  above-earlier : (i : ℕ) → i < 4 → 0 < 16 * r + 4 * v → numberAt l (16 * c + 4 * u + i) (16 * r + 4 * v - 1) < 16 * (r * l .width + c) + b
+  above-earlier : (i : ℕ) → i < 4 → 0 < 16 * r + 4 * v → orderAt l (16 * c + 4 * u + i) (16 * r + 4 * v - 1) < 16 * (r * l .width + c) + b
   above-earlier i hi p = by-case (ltb 0 v) refl
     where
-      by-case : (t : Bool) → ltb 0 v ≡ t → numberAt l (16 * c + 4 * u + i) (16 * r + 4 * v - 1) < 16 * (r * l .width + c) + b
+      by-case : (t : Bool) → ltb 0 v ≡ t → orderAt l (16 * c + 4 * u + i) (16 * r + 4 * v - 1) < 16 * (r * l .width + c) + b
       by-case true t =
           let hv = ltb-true 0 v t in
-          rw (number-at l c r u (v - 1) i 3 (16 * c + 4 * u + i) (16 * r + 4 * v - 1) (f .thin) (omega (arith, f .low)) hi (omega arith) refl (omega arith))
+          rw (order-at l c r u (v - 1) i 3 (16 * c + 4 * u + i) (16 * r + 4 * v - 1) (f .thin) (omega (arith, f .low)) hi (omega arith) refl (omega arith))
           (omega (arith, f .up hv))
       by-case false t =
           let hv = ltb-false 0 v t in
-          rw (number-at l c (r - 1) u 3 i 3 (16 * c + 4 * u + i) (16 * r + 4 * v - 1) (f .thin) (omega arith) hi (omega arith) refl (omega arith))
+          rw (order-at l c (r - 1) u 3 i 3 (16 * c + 4 * u + i) (16 * r + 4 * v - 1) (f .thin) (omega arith) hi (omega arith) refl (omega arith))
           (omega (arith, block-lt u 3 (f .thin) (omega arith), row-up r (l .width) (omega arith)))
 
   above : (k : ℕ) → 0 < k → k ≤ 4 → present l (16 * (r * l .width + c) + b) (16 * c + 4 * u + k) (16 * r + 4 * v) ≡ ltb 0 (16 * r + 4 * v)
@@ -108,17 +108,17 @@ module _ (l : Layout) (c r u v b : ℕ) (e : Bool) (hc : c < l .width) (hr : r <
       }))
 
   -- I-L: the column at the left, for the four rows of the block
-  left-earlier : (j : ℕ) → j < 4 → 0 < 16 * c + 4 * u → numberAt l (16 * c + 4 * u - 1) (16 * r + 4 * v + j) < 16 * (r * l .width + c) + b
+  left-earlier : (j : ℕ) → j < 4 → 0 < 16 * c + 4 * u → orderAt l (16 * c + 4 * u - 1) (16 * r + 4 * v + j) < 16 * (r * l .width + c) + b
   left-earlier j hj p = by-case (ltb 0 u) refl
     where
-      by-case : (t : Bool) → ltb 0 u ≡ t → numberAt l (16 * c + 4 * u - 1) (16 * r + 4 * v + j) < 16 * (r * l .width + c) + b
+      by-case : (t : Bool) → ltb 0 u ≡ t → orderAt l (16 * c + 4 * u - 1) (16 * r + 4 * v + j) < 16 * (r * l .width + c) + b
       by-case true t =
           let hu = ltb-true 0 u t in
-          rw (number-at l c r (u - 1) v 3 j (16 * c + 4 * u - 1) (16 * r + 4 * v + j) (omega (arith, f .thin)) (f .low) (omega arith) hj (omega arith) refl)
+          rw (order-at l c r (u - 1) v 3 j (16 * c + 4 * u - 1) (16 * r + 4 * v + j) (omega (arith, f .thin)) (f .low) (omega arith) hj (omega arith) refl)
           (omega (arith, f .left hu))
       by-case false t =
           let hu = ltb-false 0 u t in
-          rw (number-at l (c - 1) r 3 v 3 j (16 * c + 4 * u - 1) (16 * r + 4 * v + j) (omega arith) (f .low) (omega arith) hj (omega arith) refl)
+          rw (order-at l (c - 1) r 3 v 3 j (16 * c + 4 * u - 1) (16 * r + 4 * v + j) (omega arith) (f .low) (omega arith) hj (omega arith) refl)
           (omega (arith, block-lt 3 v (omega arith) (f .low)))
 
   beside : (j : ℕ) → 0 < j → j ≤ 4 → present l (16 * (r * l .width + c) + b) (16 * c + 4 * u) (16 * r + 4 * v + j) ≡ ltb 0 (16 * c + 4 * u)
@@ -135,29 +135,29 @@ module _ (l : Layout) (c r u v b : ℕ) (e : Bool) (hc : c < l .width) (hr : r <
       }))
 
   -- M
-  corner-earlier : 0 < 16 * c + 4 * u → 0 < 16 * r + 4 * v → numberAt l (16 * c + 4 * u - 1) (16 * r + 4 * v - 1) < 16 * (r * l .width + c) + b
+  corner-earlier : 0 < 16 * c + 4 * u → 0 < 16 * r + 4 * v → orderAt l (16 * c + 4 * u - 1) (16 * r + 4 * v - 1) < 16 * (r * l .width + c) + b
   corner-earlier px py = by-case (ltb 0 u) (ltb 0 v) refl refl
     where
-      by-case : (s t : Bool) → ltb 0 u ≡ s → ltb 0 v ≡ t → numberAt l (16 * c + 4 * u - 1) (16 * r + 4 * v - 1) < 16 * (r * l .width + c) + b
+      by-case : (s t : Bool) → ltb 0 u ≡ s → ltb 0 v ≡ t → orderAt l (16 * c + 4 * u - 1) (16 * r + 4 * v - 1) < 16 * (r * l .width + c) + b
       by-case true true s t =
           let hu = ltb-true 0 u s in
           let hv = ltb-true 0 v t in
-          rw (number-at l c r (u - 1) (v - 1) 3 3 (16 * c + 4 * u - 1) (16 * r + 4 * v - 1) (omega (arith, f .thin)) (omega (arith, f .low)) (omega arith) (omega arith) (omega arith) (omega arith))
+          rw (order-at l c r (u - 1) (v - 1) 3 3 (16 * c + 4 * u - 1) (16 * r + 4 * v - 1) (omega (arith, f .thin)) (omega (arith, f .low)) (omega arith) (omega arith) (omega arith) (omega arith))
           (omega (arith, f .corner hu hv))
       by-case true false s t =
           let hu = ltb-true 0 u s in
           let hv = ltb-false 0 v t in
-          rw (number-at l c (r - 1) (u - 1) 3 3 3 (16 * c + 4 * u - 1) (16 * r + 4 * v - 1) (omega (arith, f .thin)) (omega arith) (omega arith) (omega arith) (omega arith) (omega arith))
+          rw (order-at l c (r - 1) (u - 1) 3 3 3 (16 * c + 4 * u - 1) (16 * r + 4 * v - 1) (omega (arith, f .thin)) (omega arith) (omega arith) (omega arith) (omega arith) (omega arith))
           (omega (arith, block-lt (u - 1) 3 (omega (arith, f .thin)) (omega arith), row-up r (l .width) (omega arith)))
       by-case false true s t =
           let hu = ltb-false 0 u s in
           let hv = ltb-true 0 v t in
-          rw (number-at l (c - 1) r 3 (v - 1) 3 3 (16 * c + 4 * u - 1) (16 * r + 4 * v - 1) (omega arith) (omega (arith, f .low)) (omega arith) (omega arith) (omega arith) (omega arith))
+          rw (order-at l (c - 1) r 3 (v - 1) 3 3 (16 * c + 4 * u - 1) (16 * r + 4 * v - 1) (omega arith) (omega (arith, f .low)) (omega arith) (omega arith) (omega arith) (omega arith))
           (omega (arith, block-lt 3 (v - 1) (omega arith) (omega (arith, f .low))))
       by-case false false s t =
           let hu = ltb-false 0 u s in
           let hv = ltb-false 0 v t in
-          rw (number-at l (c - 1) (r - 1) 3 3 3 3 (16 * c + 4 * u - 1) (16 * r + 4 * v - 1) (omega arith) (omega arith) (omega arith) (omega arith) (omega arith) (omega arith))
+          rw (order-at l (c - 1) (r - 1) 3 3 3 3 (16 * c + 4 * u - 1) (16 * r + 4 * v - 1) (omega arith) (omega arith) (omega arith) (omega arith) (omega arith) (omega arith))
           (omega (arith, block-lt 3 3 (omega arith) (omega arith), row-up r (l .width) (omega arith)))
 
   corner : present l (16 * (r * l .width + c) + b) (16 * c + 4 * u) (16 * r + 4 * v) ≡ (ltb 0 (16 * r + 4 * v) && ltb 0 (16 * c + 4 * u))
@@ -171,31 +171,31 @@ module _ (l : Layout) (c r u v b : ℕ) (e : Bool) (hc : c < l .width) (hr : r <
 
   -- E-H, where they lie in the picture
   right-at : (i : ℕ) → i < 4 → 0 < 16 * r + 4 * v → 16 * c + 4 * u + 8 ≤ 16 * l .width
-      → ltb (numberAt l (16 * c + 4 * u + 4 + i) (16 * r + 4 * v - 1)) (16 * (r * l .width + c) + b) ≡ e
+      → ltb (orderAt l (16 * c + 4 * u + 4 + i) (16 * r + 4 * v - 1)) (16 * (r * l .width + c) + b) ≡ e
   right-at i hi py px = by-case (ltb u 3) (ltb 0 v) refl refl
     where
-      by-case : (s t : Bool) → ltb u 3 ≡ s → ltb 0 v ≡ t → ltb (numberAt l (16 * c + 4 * u + 4 + i) (16 * r + 4 * v - 1)) (16 * (r * l .width + c) + b) ≡ e
+      by-case : (s t : Bool) → ltb u 3 ≡ s → ltb 0 v ≡ t → ltb (orderAt l (16 * c + 4 * u + 4 + i) (16 * r + 4 * v - 1)) (16 * (r * l .width + c) + b) ≡ e
       by-case true true s t =
           let hu = ltb-true u 3 s in
           let hv = ltb-true 0 v t in
-          rw (number-at l c r (u + 1) (v - 1) i 3 (16 * c + 4 * u + 4 + i) (16 * r + 4 * v - 1) (omega arith) (omega (arith, f .low)) hi (omega arith) (omega arith) (omega arith))
+          rw (order-at l c r (u + 1) (v - 1) i 3 (16 * c + 4 * u + 4 + i) (16 * r + 4 * v - 1) (omega arith) (omega (arith, f .low)) hi (omega arith) (omega arith) (omega arith))
           (ltb-shift (16 * (r * l .width + c)) (blockIn (u + 1) (v - 1)) b ∙ f .right hu hv)
       by-case true false s t =
           let hu = ltb-true u 3 s in
           let hv = ltb-false 0 v t in
-          rw (number-at l c (r - 1) (u + 1) 3 i 3 (16 * c + 4 * u + 4 + i) (16 * r + 4 * v - 1) (omega arith) (omega arith) hi (omega arith) (omega arith) (omega arith))
+          rw (order-at l c (r - 1) (u + 1) 3 i 3 (16 * c + 4 * u + 4 + i) (16 * r + 4 * v - 1) (omega arith) (omega arith) hi (omega arith) (omega arith) (omega arith))
           (lt-ltb (16 * ((r - 1) * l .width + c) + blockIn (u + 1) 3) (16 * (r * l .width + c) + b) (omega (arith, block-lt (u + 1) 3 (omega arith) (omega arith), row-up r (l .width) (omega arith)))
           ∙ sym (f .top (omega arith)))
       by-case false true s t =
           let hu = ltb-false u 3 s in
           let hv = ltb-true 0 v t in
-          rw (number-at l (c + 1) r 0 (v - 1) i 3 (16 * c + 4 * u + 4 + i) (16 * r + 4 * v - 1) (omega arith) (omega (arith, f .low)) hi (omega arith) (omega (arith, f .thin)) (omega arith))
+          rw (order-at l (c + 1) r 0 (v - 1) i 3 (16 * c + 4 * u + 4 + i) (16 * r + 4 * v - 1) (omega arith) (omega (arith, f .low)) hi (omega arith) (omega (arith, f .thin)) (omega arith))
           (le-ltb (16 * (r * l .width + (c + 1)) + blockIn 0 (v - 1)) (16 * (r * l .width + c) + b) (omega (arith, f .self, block-lt u v (f .thin) (f .low)))
           ∙ sym (f .edge hu hv))
       by-case false false s t =
           let hu = ltb-false u 3 s in
           let hv = ltb-false 0 v t in
-          rw (number-at l (c + 1) (r - 1) 0 3 i 3 (16 * c + 4 * u + 4 + i) (16 * r + 4 * v - 1) (omega arith) (omega arith) hi (omega arith) (omega (arith, f .thin)) (omega arith))
+          rw (order-at l (c + 1) (r - 1) 0 3 i 3 (16 * c + 4 * u + 4 + i) (16 * r + 4 * v - 1) (omega arith) (omega arith) hi (omega arith) (omega (arith, f .thin)) (omega arith))
           (lt-ltb (16 * ((r - 1) * l .width + (c + 1)) + blockIn 0 3) (16 * (r * l .width + c) + b) (omega (arith, block-lt 0 3 (omega arith) (omega arith), row-up r (l .width) (omega arith), f .thin))
           ∙ sym (f .top (omega arith)))
 
@@ -228,8 +228,8 @@ cheap s x y b k =
     (cond (leb k 4) (ltb 0 y) (cond (leb k 8) (ltb 0 y && (leb (x + 8) s && early b)) (ltb 0 x)))
 
 module _ (l : Layout) (m b : ℕ) (some : 0 < l .width) (among : m < l .width * l .height) (block : b < 16) where
-  pub presence : (k : ℕ) → k < 13 → presentAt 4 l m b k ≡ cheap (16 * l .width) (columnOf l m b) (rowOf l m b) b k
-  unfolding presentAt columnOf rowOf
+  pub presence : (k : ℕ) → k < 13 → presentAt 4 l m b k ≡ cheap (16 * l .width) (blockColumn l m b) (blockRow l m b) b k
+  unfolding presentAt blockColumn blockRow
   presence k hk = by-case (eqb k 0) (leb k 4) (leb k 8) refl refl refl
     where
       f : Inner (columnIn b) (rowIn b) b (early b)
@@ -281,17 +281,17 @@ module _ (l : Layout) (m : ℕ) (some : 0 < l .width) (among : m < l .width * l 
       let e : early (getD lateTable i 0) ≡ false = not-true _ (holds _ (every-at 5 (λ i. not (early (getD lateTable i 0))) tt i h)) in
       presence l m (getD lateTable i 0) some among (ltb→lt _ _ (every-at 5 (λ i. ltb (getD lateTable i 0) 16) tt i h)) k (omega arith)
       ∙ rw (ne-eqb k 0 (λ e. omega arith), lt-leb k 4 first, le-leb k 8 last, e)
-      (late (ltb 0 (rowOf l m (getD lateTable i 0))) (leb (columnOf l m (getD lateTable i 0) + 8) (16 * l .width)))
+      (late (ltb 0 (blockRow l m (getD lateTable i 0))) (leb (blockColumn l m (getD lateTable i 0) + 8) (16 * l .width)))
 
   -- "block 5's E-H lie in the macroblock above right"
   pub upper-right-of-five : m % l .width + 1 < l .width → 0 < m / l .width
-      → numberAt l (neighbourColumn 4 (columnOf l m 5) k - 1) (neighbourRow 4 (rowOf l m 5) k - 1) / 16 ≡ m - l .width + 1
-  unfolding columnOf rowOf
+      → orderAt l (neighbourColumn 4 (blockColumn l m 5) k - 1) (neighbourRow 4 (blockRow l m 5) k - 1) / 16 ≡ m - l .width + 1
+  unfolding blockColumn blockRow
   upper-right-of-five hc hr =
       let c = m % l .width in
       let r = m / l .width in
       let e : m / l .width * l .width + m % l .width ≡ m = div-add-mod' m (l .width) in
       let x : columnIn 5 ≡ 3 = fifth .0 in
       let y : rowIn 5 ≡ 0 = fifth .1 in
-      rw (le-leb k 8 last, number-at l (m % l .width + 1) (m / l .width - 1) 0 3 (k - 5) 3 (16 * (m % l .width) + 4 * columnIn 5 + k - 1) (16 * (m / l .width) + 4 * rowIn 5 - 1) (omega arith) (omega arith) (omega arith) (omega arith) (omega arith) (omega arith))
+      rw (le-leb k 8 last, order-at l (m % l .width + 1) (m / l .width - 1) 0 3 (k - 5) 3 (16 * (m % l .width) + 4 * columnIn 5 + k - 1) (16 * (m / l .width) + 4 * rowIn 5 - 1) (omega arith) (omega arith) (omega arith) (omega arith) (omega arith) (omega arith))
       (omega (arith, block-lt 0 3 (omega arith) (omega arith), row-up (m / l .width) (l .width) hr))

@@ -6,27 +6,26 @@
 -- Assumes nothing.
 use mathlib.Core.Path.{_≡_, refl}
 use mathlib.Core.Bool.{true, false}
-use Prim.Native.Nat.{ℕ}
 use Rattle.lists.specs.First.{first}
 use Rattle.picture.specs.declared.Layout.{Layout}
-use Rattle.picture.specs.Order.{blockTable, blockIn, placeIn, columnIn, rowIn, columnOf, rowOf, numberAt}
-use Rattle.picture.specs.Presence.{inside, present, presentAt, neighbourColumn, neighbourRow, flagsOf}
+use Rattle.picture.specs.Order.{blockTable, blockIn, tablePlace, columnIn, rowIn, blockColumn, blockRow, orderAt}
+use Rattle.picture.specs.Presence.{insidePicture, present, presentAt, neighbourColumn, neighbourRow, flagsOf}
 
 abbrev two : Layout
 two = record { width = 2; height = 2; rows = 2 }
 
-pub edge-alone : (inside two (neighbourColumn 4 (columnOf two 0 3) 5) (neighbourRow 4 (rowOf two 0 3) 5) ≡ true) × (presentAt 4 two 0 3 5 ≡ false)
-unfolding presentAt present numberAt columnOf rowOf columnIn rowIn placeIn blockIn blockTable first
+pub edge-alone : (insidePicture two (neighbourColumn 4 (blockColumn two 0 3) 5) (neighbourRow 4 (blockRow two 0 3) 5) ≡ true) × (presentAt 4 two 0 3 5 ≡ false)
+unfolding presentAt present orderAt blockColumn blockRow columnIn rowIn tablePlace blockIn blockTable first
 edge-alone = (refl, refl)
 
 pub above-right : presentAt 4 two 2 5 5 ≡ true
-unfolding presentAt present numberAt columnOf rowOf columnIn rowIn placeIn blockIn blockTable first
+unfolding presentAt present orderAt blockColumn blockRow columnIn rowIn tablePlace blockIn blockTable first
 above-right = refl
 
-pub quarters : (columnOf two 0 1 ≡ 4) × (rowOf two 0 1 ≡ 0) × (columnOf two 0 2 ≡ 0) × (rowOf two 0 2 ≡ 4)
-unfolding columnOf rowOf columnIn rowIn placeIn blockTable first
+pub quarters : (blockColumn two 0 1 ≡ 4) × (blockRow two 0 1 ≡ 0) × (blockColumn two 0 2 ≡ 0) × (blockRow two 0 2 ≡ 4)
+unfolding blockColumn blockRow columnIn rowIn tablePlace blockTable first
 quarters = (refl, refl, refl, refl)
 
 pub flags-of-three : flagsOf two 0 3 ≡ 7
-unfolding flagsOf presentAt present numberAt columnOf rowOf columnIn rowIn placeIn blockIn blockTable first
+unfolding flagsOf presentAt present orderAt blockColumn blockRow columnIn rowIn tablePlace blockIn blockTable first
 flags-of-three = refl

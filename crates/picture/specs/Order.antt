@@ -1,7 +1,7 @@
 -- The order in which macroblocks and blocks are coded, and where they stand (01, "Plane and record file"). Assumes nothing.
+use mathlib.Core.Path.{_≡_}
 use mathlib.Core.List.{List, [], _∷_}
 use Prim.Native.Nat.{ℕ, _+_, _*_, _/_, _%_, _<_, _≤_}
-use mathlib.Core.Path.{_≡_}
 use lib.Dec.{eqb}
 use lib.ListN.{getD}
 use Rattle.lists.specs.First.{first}
@@ -20,29 +20,29 @@ unfoldable pub blockIn : (u v : ℕ) → ℕ
 blockIn u v = getD blockTable (4 * v + u) 0
 
 -- and the other way: where block b stands in the table, its column and its row
-unfoldable pub placeIn : ℕ → ℕ
-placeIn b = first 16 (λ place. eqb (getD blockTable place 0) b)
+unfoldable pub tablePlace : ℕ → ℕ
+tablePlace b = first 16 (λ place. eqb (getD blockTable place 0) b)
 
 unfoldable pub columnIn : ℕ → ℕ
-columnIn b = placeIn b % 4
+columnIn b = tablePlace b % 4
 
 unfoldable pub rowIn : ℕ → ℕ
-rowIn b = placeIn b / 4
+rowIn b = tablePlace b / 4
 
 -- column and row of the first sample of block b of macroblock m: macroblocks of 16x16 are "numbered in raster order from 0"
-unfoldable pub columnOf : Layout → (m b : ℕ) → ℕ
-columnOf l m b = 16 * (m % l .width) + 4 * columnIn b
+unfoldable pub blockColumn : Layout → (m b : ℕ) → ℕ
+blockColumn l m b = 16 * (m % l .width) + 4 * columnIn b
 
-unfoldable pub rowOf : Layout → (m b : ℕ) → ℕ
-rowOf l m b = 16 * (m / l .width) + 4 * rowIn b
+unfoldable pub blockRow : Layout → (m b : ℕ) → ℕ
+blockRow l m b = 16 * (m / l .width) + 4 * rowIn b
 
 -- "Macroblocks go in raster order": the number of block b of macroblock m in the coding order
-abbrev pub numberOf : (m b : ℕ) → ℕ
-numberOf m b = 16 * m + b
+abbrev pub orderOf : (m b : ℕ) → ℕ
+orderOf m b = 16 * m + b
 
 -- and the number of the block that holds the sample in column x of row y
-unfoldable pub numberAt : Layout → (x y : ℕ) → ℕ
-numberAt l x y = numberOf (y / 16 * l .width + x / 16) (blockIn (x / 4 % 4) (y / 4 % 4))
+unfoldable pub orderAt : Layout → (x y : ℕ) → ℕ
+orderAt l x y = orderOf (y / 16 * l .width + x / 16) (blockIn (x / 4 % 4) (y / 4 % 4))
 
 -- "Width and height are 1 to 128 macroblocks"; the picture is one slice
 pub record Sound (l : Layout) : Type 0 where

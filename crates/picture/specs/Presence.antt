@@ -6,15 +6,15 @@ use Prim.Native.Nat.{ℕ, _+_, _*_, _-_}
 use lib.Dec.{leb, ltb}
 use Rattle.lists.specs.Every.{every}
 use Rattle.picture.specs.declared.Layout.{Layout}
-use Rattle.picture.specs.Order.{columnOf, rowOf, numberOf, numberAt}
+use Rattle.picture.specs.Order.{blockColumn, blockRow, orderOf, orderAt}
 
 -- "it lies inside the picture"
-abbrev pub inside : Layout → (X Y : ℕ) → Bool
-inside l X Y = ltb 0 X && leb X (16 * l .width) && (ltb 0 Y && leb Y (16 * l .height))
+abbrev pub insidePicture : Layout → (X Y : ℕ) → Bool
+insidePicture l X Y = ltb 0 X && leb X (16 * l .width) && (ltb 0 Y && leb Y (16 * l .height))
 
 -- "and its block comes earlier" than the block of that number
 unfoldable pub present : Layout → (number X Y : ℕ) → Bool
-present l number X Y = inside l X Y && ltb (numberAt l (X - 1) (Y - 1)) number
+present l number X Y = insidePicture l X Y && ltb (orderAt l (X - 1) (Y - 1)) number
 
 -- the neighbours of a block of n by n whose first sample is in column x of row y, in the order M, A to H, I to L:
 -- one and 2n above, from the corner on, then n at the left
@@ -26,16 +26,17 @@ neighbourRow n y k = cond (leb k (2 * n)) y (y + (k - 2 * n))
 
 -- whether neighbour k is present, of the n by n samples from the first of block b of macroblock m on
 unfoldable pub presentAt : (n : ℕ) → Layout → (m b k : ℕ) → Bool
-presentAt n l m b k = present l (numberOf m b) (neighbourColumn n (columnOf l m b) k) (neighbourRow n (rowOf l m b) k)
+presentAt n l m b k = present l (orderOf m b) (neighbourColumn n (blockColumn l m b) k) (neighbourRow n (blockRow l m b) k)
 
--- count neighbours from number k on are present
-abbrev pub allPresent : (count k n : ℕ) → Layout → (m b : ℕ) → Bool
-allPresent count k n l m b = every count (λ i. presentAt n l m b (k + i))
+-- a group of neighbours of a 4x4 block, from number `first` on, is present
+abbrev pub groupPresent : (count first : ℕ) → Layout → (m b : ℕ) → Bool
+groupPresent count first l m b = every count (λ i. presentAt 4 l m b (first + i))
 
--- "One flags byte says what is present: bit 0 A-D, bit 1 I-L, bit 2 M, bit 3 E-H" (01, "Samples round a block")
+-- "One flags byte says what is present: bit 0 A-D, bit 1 I-L, bit 2 M, bit 3 E-H" (01, "Samples round a block"):
+-- A-D are neighbours 1 to 4, I-L 9 to 12, M is neighbour 0, E-H are 5 to 8
 unfoldable pub flagsOf : Layout → (m b : ℕ) → ℕ
 flagsOf l m b =
-    cond (allPresent 4 1 4 l m b) 1 0
-    + cond (allPresent 4 9 4 l m b) 2 0
-    + cond (allPresent 1 0 4 l m b) 4 0
-    + cond (allPresent 4 5 4 l m b) 8 0
+    cond (groupPresent 4 1 l m b) 1 0
+    + cond (groupPresent 4 9 l m b) 2 0
+    + cond (groupPresent 1 0 l m b) 4 0
+    + cond (groupPresent 4 5 l m b) 8 0

@@ -1,10 +1,10 @@
 // What the crates above ask of a picture: where a block stands, which of its neighbours are present, and its samples.
 ghost use mathlib.Core.Bool.{cond};
 ghost use mathlib.Core.Path.{_≡_};
-ghost use Prim.Native.Nat.{_+_, _*_, _-_, _/_, _%_, _≤_};
+ghost use Prim.Native.Nat.{_+_, _*_, _-_, _/_, _%_, _<_, _≤_};
 ghost use lib.ListN.{length, getD};
 ghost use Rattle.lists.specs.Tab.{tab};
-ghost use Rattle.picture.specs.Order.{Among, rowIn, columnOf, rowOf};
+ghost use Rattle.picture.specs.Order.{Among, columnIn, rowIn, blockColumn, blockRow};
 ghost use Rattle.picture.specs.Plane.{stride, samplesOf, blockOf, withBlock, gathered};
 ghost use Rattle.picture.specs.Presence.{presentAt, flagsOf};
 ghost use Rattle.picture.specs.Reach.{Behind};
@@ -13,28 +13,44 @@ use crate::Layout;
 // The blocks whose upper right comes before them where it lies in the picture: all but 3, 7, 11, 13, 15.
 const EARLY: [u8; 16] = [1, 1, 1, 0, 1, 1, 1, 0, 1, 1, 1, 0, 1, 0, 1, 0];
 
+// The column of block b in its macroblock, in blocks.
+fn column_inside(b: usize) -> usize
+    requires { ⌜ b < 16 ⌝ }
+    ensures { λ r. ⌜ (r ≡ columnIn b) × (r < 4) ⌝ }
+{
+    b % 2 + 2 * (b / 4 % 2)
+}
+
+// Its row there.
+fn row_inside(b: usize) -> usize
+    requires { ⌜ b < 16 ⌝ }
+    ensures { λ r. ⌜ (r ≡ rowIn b) × (r < 4) ⌝ }
+{
+    b / 2 % 2 + 2 * (b / 8)
+}
+
 // The column of the first sample of block b of macroblock m.
 pub fn column(layout: Layout, m: usize, b: usize) -> usize
     requires { ⌜ Among layout m b ⌝ }
-    ensures { λ r. ⌜ r ≡ columnOf layout m b ⌝ }
+    ensures { λ r. ⌜ r ≡ blockColumn layout m b ⌝ }
 {
-    16 * (m % layout.width) + 4 * (b % 2 + 2 * (b / 4 % 2))
+    16 * (m % layout.width) + 4 * column_inside(b)
 }
 
-// Its row.
+// The row of that sample.
 pub fn row(layout: Layout, m: usize, b: usize) -> usize
     requires { ⌜ Among layout m b ⌝ }
-    ensures { λ r. ⌜ r ≡ rowOf layout m b ⌝ }
+    ensures { λ r. ⌜ r ≡ blockRow layout m b ⌝ }
 {
-    16 * (m / layout.width) + 4 * (b / 2 % 2 + 2 * (b / 8))
+    16 * (m / layout.width) + 4 * row_inside(b)
 }
 
-// Its row inside its slice: nothing above a slice is present.
+// The same row inside its slice: nothing above a slice is present.
 fn row_in_slice(layout: Layout, m: usize, b: usize) -> usize
     requires { ⌜ Among layout m b ⌝ }
     ensures { λ r. ⌜ r ≡ 16 * (m / layout .width % layout .rows) + 4 * rowIn b ⌝ }
 {
-    16 * (m / layout.width % layout.rows) + 4 * (b / 2 % 2 + 2 * (b / 8))
+    16 * (m / layout.width % layout.rows) + 4 * row_inside(b)
 }
 
 // Whether A-D are present.
@@ -101,7 +117,7 @@ pub fn flags(layout: Layout, m: usize, b: usize) -> u8
 // The place of the block's first sample in the plane.
 fn first_place(layout: Layout, m: usize, b: usize) -> usize
     requires { ⌜ Among layout m b ⌝ }
-    ensures { λ r. ⌜ r ≡ rowOf layout m b * stride layout + columnOf layout m b ⌝ }
+    ensures { λ r. ⌜ r ≡ blockRow layout m b * stride layout + blockColumn layout m b ⌝ }
 {
     row(layout, m, b) * (16 * layout.width) + column(layout, m, b)
 }

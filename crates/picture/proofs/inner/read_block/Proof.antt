@@ -1,13 +1,13 @@
 -- `picture::inner::read_block` meets its contract: a loop over rows round a loop over columns.
 -- Assumes nothing.
-use mathlib.Core.Path.{_≡_, refl, sym, _∙_}
+use mathlib.Core.Path.{refl}
 use mathlib.Core.List.{List}
 use Prim.Native.Nat.{ℕ, _+_, _*_, _-_, _<_}
 use native.Mathlib.Omega.{arith}
 use borrow.Author.Needs.{needs}
-use lib.ListN.{length, getD}
-use Rattle.lists.proofs.Tab.{Squaring, squaring-none, squaring-inside, squaring-more, squaring-row, squaring-done}
-use Rattle.picture.specs.Order.{columnOf, rowOf}
+use lib.ListN.{getD}
+use Rattle.lists.proofs.Tab.{Squaring, squaring-none, squaring-more, squaring-row, squaring-done}
+use Rattle.picture.specs.Order.{blockColumn, blockRow}
 use Rattle.picture.specs.Plane.{stride, samplesOf}
 use Rattle.picture.proofs.Plane.{samples-fit, spot-in, block-by}
 use Rattle.picture.proofs.inner.read_block.Statement.{statement}
@@ -103,7 +103,7 @@ returns : tie.Need-returns Inv-loop2 μ-loop2 Inv-loop μ-loop
 returns c =
     let f = c .before .before in
     let a = f .before .before .before .args in
-    rw (block-by 4 (stride (a .layout)) (columnOf (a .layout) (a .m) (a .b)) (rowOf (a .layout) (a .m) (a .b)) (a .plane .now), ← (f .first-place .ensures))
+    rw (block-by 4 (stride (a .layout)) (blockColumn (a .layout) (a .m) (a .b)) (blockRow (a .layout) (a .m) (a .b)) (a .plane .now), ← (f .first-place .ensures))
     (squaring-done _ _ (c .before .loop .inv) (search needs))
 
 pub read-block-spec : {M : Type 1} → statement M

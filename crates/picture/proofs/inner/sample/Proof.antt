@@ -1,7 +1,6 @@
 -- `picture::inner::sample` meets its contract.
 -- Assumes nothing.
 use native.Mathlib.Omega.{arith}
-use borrow.Author.Needs.{needs}
 use Rattle.picture.proofs.inner.sample.Statement.{statement}
 use Rattle.picture.proofs.inner.sample.Tie as tie
 

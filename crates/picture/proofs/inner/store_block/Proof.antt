@@ -1,12 +1,12 @@
 -- `picture::inner::store_block` meets its contract: a loop whose stores are scattered.
 -- Assumes nothing.
-use mathlib.Core.Path.{_≡_, refl, sym, _∙_}
+use mathlib.Core.Path.{refl, _∙_}
 use Prim.Native.Nat.{ℕ, _+_, _*_, _-_, _/_, _%_, _<_}
 use native.Mathlib.Omega.{arith}
 use borrow.Author.Needs.{needs}
-use lib.ListN.{length, getD}
+use lib.ListN.{getD}
 use Rattle.lists.proofs.Stores.{Storing, storing-none, storing-more, storing-done}
-use Rattle.picture.specs.Order.{columnOf, rowOf}
+use Rattle.picture.specs.Order.{blockColumn, blockRow}
 use Rattle.picture.specs.Plane.{stride, samplesOf}
 use Rattle.picture.proofs.Plane.{samples-fit, spot-in, stored-by}
 use Rattle.picture.proofs.inner.store_block.Statement.{statement}
@@ -73,7 +73,7 @@ returns : tie.Need-returns Inv-loop μ-loop
 returns c =
     let f = c .before .before in
     let a = f .before .before .before .args in
-    rw (stored-by 4 (stride (a .layout)) (columnOf (a .layout) (a .m) (a .b)) (rowOf (a .layout) (a .m) (a .b)) (a .t5) (a .plane .now), ← (f .first-place .ensures))
+    rw (stored-by 4 (stride (a .layout)) (blockColumn (a .layout) (a .m) (a .b)) (blockRow (a .layout) (a .m) (a .b)) (a .t5) (a .plane .now), ← (f .first-place .ensures))
     (storing-done _ _ 16 (c .before .loop .inv) (search needs))
 
 pub store-block-spec : {M : Type 1} → statement M
