@@ -10,7 +10,7 @@ use mathlib.Core.Bool.{Bool, true, false, cond, _&&_}
 use Prim.Native.Nat.{ℕ, _+_, _*_, _/_, _%_, _^_, _<_, _≤_}
 use native.Mathlib.Nat.{mod-eq-of-lt, div-lt-iff-lt-mul}
 use native.Mathlib.Omega.{arith}
-use borrow.Author.Tests.{eqb-true, eqb-false, leb-true, leb-false, le-leb, lt-leb, ne-eqb}
+use borrow.Author.Tests.{eq-eqb, eqb-true, eqb-false, leb-true, leb-false, le-leb, lt-leb, ne-eqb}
 use lib.Dec.{eqb, leb, ltb}
 use Rattle.lists.proofs.Every.{every-same}
 use Rattle.picture.specs.declared.Layout.{Layout}
@@ -23,32 +23,34 @@ use Rattle.picture.proofs.Presence.{cheap, presence}
 abbrev pub bitFor : ℕ → ℕ
 bitFor k = cond (eqb k 0) 2 (cond (leb k 4) 0 (cond (leb k 8) 3 1))
 
--- the first sample of each group
-abbrev byteBy : (above left corner right : Bool) → ℕ
+-- the byte by the presence of the four groups
+abbrev pub byteBy : (above left corner right : Bool) → ℕ
 byteBy above left corner right = cond above 1 0 + cond left 2 0 + cond corner 4 0 + cond right 8 0
 
-bits : (a l c r : Bool)
-    → (eqb (byteBy a l c r / 2 ^ 0 % 2) 1 ≡ a) × (eqb (byteBy a l c r / 2 ^ 1 % 2) 1 ≡ l) × (eqb (byteBy a l c r / 2 ^ 2 % 2) 1 ≡ c) × (eqb (byteBy a l c r / 2 ^ 3 % 2) 1 ≡ r)
-bits true true true true = (refl, refl, refl, refl)
-bits true true true false = (refl, refl, refl, refl)
-bits true true false true = (refl, refl, refl, refl)
-bits true true false false = (refl, refl, refl, refl)
-bits true false true true = (refl, refl, refl, refl)
-bits true false true false = (refl, refl, refl, refl)
-bits true false false true = (refl, refl, refl, refl)
-bits true false false false = (refl, refl, refl, refl)
-bits false true true true = (refl, refl, refl, refl)
-bits false true true false = (refl, refl, refl, refl)
-bits false true false true = (refl, refl, refl, refl)
-bits false true false false = (refl, refl, refl, refl)
-bits false false true true = (refl, refl, refl, refl)
-bits false false true false = (refl, refl, refl, refl)
-bits false false false true = (refl, refl, refl, refl)
-bits false false false false = (refl, refl, refl, refl)
-
-worth : (t : Bool) (v : ℕ) → cond t v 0 ≤ v
+worth : (t : Bool) (v : ℕ) → cond t v 0 ≡ v * cond t 1 0
 worth true v = omega arith
 worth false v = omega arith
+
+one : (t : Bool) → cond t 1 0 ≤ 1
+one true = omega arith
+one false = omega arith
+
+bit-is : (t : Bool) (n : ℕ) → n ≡ cond t 1 0 → eqb n 1 ≡ t
+bit-is true n e = eq-eqb n 1 e
+bit-is false n e = ne-eqb n 1 (λ z. omega arith)
+
+-- each bit is read back
+module _ (a l c r : Bool) where
+  bits : (eqb (byteBy a l c r / 2 ^ 0 % 2) 1 ≡ a) × (eqb (byteBy a l c r / 2 ^ 1 % 2) 1 ≡ l) × (eqb (byteBy a l c r / 2 ^ 2 % 2) 1 ≡ c) × (eqb (byteBy a l c r / 2 ^ 3 % 2) 1 ≡ r)
+  bits = (
+    bit-is a (byteBy a l c r / 2 ^ 0 % 2) (omega (arith, worth l 2, worth c 4, worth r 8, one a, one l, one c, one r)),
+    bit-is l (byteBy a l c r / 2 ^ 1 % 2) (omega (arith, worth l 2, worth c 4, worth r 8, one a, one l, one c, one r)),
+    bit-is c (byteBy a l c r / 2 ^ 2 % 2) (omega (arith, worth l 2, worth c 4, worth r 8, one a, one l, one c, one r)),
+    bit-is r (byteBy a l c r / 2 ^ 3 % 2) (omega (arith, worth l 2, worth c 4, worth r 8, one a, one l, one c, one r)),
+  )
+
+  byte-lt : byteBy a l c r < 16
+  byte-lt = omega (arith, worth l 2, worth c 4, worth r 8, one a, one l, one c, one r)
 
 module _ {l : Layout} {m b : ℕ} (a : Among l m b) where
   pub row-in-height : m / l .width < l .height
@@ -99,9 +101,7 @@ module _ {l : Layout} {m b : ℕ} (a : Among l m b) where
       )
 
   pub flags-lt : flagsOf l m b < 16
-  flags-lt =
-      rw flags-by
-      (omega (arith, worth (presentAt 4 l m b 1) 1, worth (presentAt 4 l m b 9) 2, worth (presentAt 4 l m b 0) 4, worth (presentAt 4 l m b 5) 8))
+  flags-lt = rw flags-by (byte-lt (presentAt 4 l m b 1) (presentAt 4 l m b 9) (presentAt 4 l m b 0) (presentAt 4 l m b 5))
 
   pub flags-tell : (k : ℕ) → k < 13 → eqb (flagsOf l m b / 2 ^ bitFor k % 2) 1 ≡ presentAt 4 l m b k
   flags-tell k h = rw flags-by (by-case (eqb k 0) (leb k 4) (leb k 8) refl refl refl)
