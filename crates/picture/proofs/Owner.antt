@@ -1,7 +1,8 @@
 -- Whose block a sample is in.
---     own-order     a block's samples have its number
+--     own-order      a block's samples have its number
 --     in-block       a sample that has a block's number lies in the block
---     order-lt      each sample of the picture has a number below the count of its blocks
+--     order-lt       each sample of the picture has a number below the count of its blocks
+--     ownerOf: read-back, own-stored, others-kept     a stored block is read back, and no other block's sample has changed
 -- Assumes nothing.
 use mathlib.Core.Path.{_≡_, refl, _∙_}
 use mathlib.Core.List.{List}

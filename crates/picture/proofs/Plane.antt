@@ -9,7 +9,7 @@
 use mathlib.Core.Path.{_≡_, sym, ap, _∙_}
 use mathlib.Core.List.{List}
 use Prim.Native.Nat.{ℕ, zero, suc, _+_, _*_, _/_, _%_, _<_, _≤_}
-use native.Mathlib.Nat.{mod-lt, div-add-mod', div-lt-iff-lt-mul, mul-le-mul-left, mul-le-mul-right}
+use native.Mathlib.Nat.{mod-lt, div-add-mod', div-lt-iff-lt-mul, mul-le-mul-right}
 use native.Mathlib.Omega.{arith}
 use lib.Arith.{digits-lt, digits-div, digits-mod}
 use lib.ListN.{length, getD}
@@ -49,10 +49,6 @@ cell s x y x′ y′ h h′ e =
 pub within : {n len s x y : ℕ} → Room n len s x y → (i j : ℕ) → i < n → j < n → (y + j) * s + (x + i) < len
 within {n} {len} {s} {x} {y} r i j hi hj =
     omega (arith, r .high, digits-lt {q = y + j} {m = y + n} {r = x + i} {c = s} (omega arith) (omega (arith, r .wide)))
-
--- the rows of a block have numbers that fit where its places do
-pub rows-fit : {n len s x y : ℕ} → 0 < n → Room n len s x y → y + n ≤ len
-rows-fit {n} {len} {s} {x} {y} h r = omega (arith, r .high, mul-le-mul-left (y + n) (let p : 1 ≤ s = omega (arith, r .wide) in p))
 
 module _ (n s x y : ℕ) (block plane : List ℕ) where
   pub length-stored : length (stored n s x y block plane) ≡ length plane

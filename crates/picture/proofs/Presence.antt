@@ -1,7 +1,7 @@
 -- The paper's rule of presence is the code's cheap tests: is there a row above, a column at the left, and does the upper right, where it
 -- lies in the picture, come earlier.
 --     present-is, is-present     what it means to be present
---     order-at                  the number of a sample's block, by its digits
+--     order-at                   the number of a sample's block, by its digits
 --     presence                   the theorem, at all macroblocks and blocks of a picture of any size
 --     upper-right-missing        E-H are missing for blocks 3, 7, 11, 13 and 15
 --     upper-right-of-five        block 5's E-H lie in the macroblock above right
