@@ -1,3 +1,4 @@
+pub mod Alike
 pub mod Chain
 pub mod Every
 pub mod First
