@@ -1,5 +1,5 @@
 -- Laws of the DC levels.
---     mf-small, f-small                what a level's code asks for, over s
+--     mf-small                         the multiplier
 --     luma-around, chroma-around       T of DC values within 4080
 --     luma-by, chroma-by               the levels over one multiplier, what is added and the power of two
 --     luma-levels-each                 luma DC levels fit 16 bits: none is above 6528
@@ -18,11 +18,11 @@ use Rattle.whole.proofs.Steps.{each-at}
 use Rattle.transform.specs.Hadamard.{H4, H2, hadamard}
 use Rattle.transform.proofs.Bounds.{hadamard4-each, hadamard2-each}
 use Rattle.quantizer.specs.Range.{periodOf, remainderOf}
-use Rattle.quantizer.specs.Tables.{zigzagOf}
 use Rattle.quantizer.specs.declared.Class.the-variants.{A}
 use Rattle.quantizer.proofs.Tables as tables
 use Rattle.residual.specs.Order.{inZigzag}
 use Rattle.residual.specs.Quantize.{levelBy, levelOf, fOf, qOf}
+use Rattle.residual.proofs.Order.{in-zigzag-each}
 use Rattle.residual.proofs.Quantize.{third-small, level-within}
 use Rattle.dc.specs.Dc.{mfA, quantizedDc, lumaLevels, chromaLevels}
 
@@ -58,12 +58,8 @@ quantized-each : (n s K qp : ℕ) (t : List ℤ) → ((y : ℤ) → Within 65280
 unfolding quantizedDc
 quantized-each n s K qp t small h = each-tab K n _ (λ k l. small (getD t k (pos 0)) (each-at 65280 t h k))
 
-ordered-each : (B : ℕ) (l : List ℤ) → Each B l → Each B (inZigzag l)
-unfolding inZigzag
-ordered-each B l h = each-tab B 16 _ (λ k m. each-at B l h (zigzagOf k))
-
 pub luma-levels-each : (qp : ℕ) (dc : List ℤ) → Each 4080 dc → Each 6528 (lumaLevels qp dc)
 unfolding lumaLevels
 luma-levels-each qp dc h =
-    ordered-each 6528 (quantizedDc 16 2 qp (hadamard 4 H4 dc))
+    in-zigzag-each 6528 (quantizedDc 16 2 qp (hadamard 4 H4 dc))
     (quantized-each 16 2 6528 qp (hadamard 4 H4 dc) (λ y b. level-within 2 (periodOf qp) (mfA qp) 65280 13107 6528 y b (mf-small qp) tt) (luma-around dc h))

@@ -1,8 +1,11 @@
+pub mod Alike
 pub mod Chain
 pub mod Every
 pub mod First
 pub mod Fold
+pub mod Keys
 pub mod Pairs
 pub mod Parts
 pub mod Stores
 pub mod Tab
+pub mod Total

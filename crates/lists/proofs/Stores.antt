@@ -1,5 +1,6 @@
 -- Laws of scattered stores.
 --     length-stores, getD-stores-at, getD-stores-off      its elements: at the place of a store, and at any other
+--     stores-same                                         equal places
 --     Storing: storing-none, storing-more, storing-done   a loop over k that stores v k at p k
 -- Assumes nothing.
 use mathlib.Core.Path.{_≡_, refl, sym, ap, _∙_}
@@ -58,3 +59,9 @@ module _ {A : Type 0} (p : ℕ → ℕ) (v : ℕ → A) where
 
   pub storing-done : (n : ℕ) {d₀ d : List A} {k : ℕ} → Storing n d₀ d k → n ≤ k → d ≡ stores n p v d₀
   storing-done n {d₀} {d} {k} h l = let q : k ≡ n = omega (arith, h .below) in h .is ∙ rw q
+
+module _ {A : Type 0} (p q : ℕ → ℕ) (v : ℕ → A) where
+  pub stores-same : (n : ℕ) (d : List A) → ((k : ℕ) → k < n → p k ≡ q k) → stores n p v d ≡ stores n q v d
+  unfolding stores
+  stores-same zero d h = refl
+  stores-same (suc n) d h = rw (stores-same n d (λ k l. h k (omega arith)), h n (omega arith))

@@ -6,3 +6,4 @@ pub mod Pairs
 pub mod Parts
 pub mod Stores
 pub mod Tab
+pub mod Total

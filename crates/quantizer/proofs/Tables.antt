@@ -7,11 +7,12 @@
 use mathlib.Core.Path.{_≡_, refl, sym, ap, _∙_}
 use mathlib.Core.Bool.{Bool, _&&_}
 use mathlib.Core.List.{List, [], _∷_}
-use Prim.Native.Nat.{ℕ, _+_, _-_, _*_, _^_, _<_, _≤_}
+use Prim.Native.Nat.{ℕ, _+_, _*_, _^_, _<_, _≤_}
 use native.Mathlib.Omega.{arith}
 use lib.Dec.{T, eqb, ltb, leb, eqb→eq, ltb→lt, leb→le}
 use lib.ListN.{getD}
 use Rattle.lists.specs.Every.{every}
+use Rattle.lists.specs.Total.{distance}
 use Rattle.lists.proofs.Every.{every-at}
 use Rattle.quantizer.specs.Tables.{mfTable, vTable, mfOf, vOf, columnOf, zigzagOf, stepOf, classAtPlace}
 use Rattle.quantizer.specs.declared.Class.{Class}
@@ -68,9 +69,6 @@ abbrev pub gainOf : Class → ℕ
 gainOf A = 16
 gainOf B = 25
 gainOf C = 20
-
-abbrev pub distance : ℕ → ℕ → ℕ
-distance a b = (a - b) + (b - a)
 
 close : ℕ → ℕ → Bool
 close r c = leb (distance (getD mfTable (3 * r + c) 0 * getD vTable (3 * r + c) 0 * getD (16 ∷ 25 ∷ 20 ∷ []) c 0) (2 ^ 21)) 277

@@ -1,30 +1,38 @@
 -- What the tests of the block path come to, one law for each verdict, and when its entry points refuse. Assumes nothing.
-use mathlib.Core.Path.{_≡_, sym, _∙_}
+use mathlib.Core.Path.{_≡_, sym, ap, _∙_}
 use mathlib.Core.List.{List, [], _∷_}
 use Prim.Native.Nat.{ℕ, _+_, _≤_, _<_}
 use native.Mathlib.Omega.{arith}
-use borrow.Author.Tests.{eq-eqb, ne-eqb, le-leb, lt-leb}
+use borrow.Author.Tests.{eq-eqb, ne-eqb, le-leb, lt-leb, eqb-true, leb-true}
 use lib.IntN.{ℤ, pos, negsuc}
 use lib.ListN.{length}
-use Rattle.lists.specs.Chain.{chain, pass, stop}
-use Rattle.lists.proofs.Chain.{ExactlyIf}
+use Rattle.lists.specs.Chain.{Verdict, chain, pass, stop, written}
+use Rattle.lists.proofs.Chain.{ExactlyIf, chain-exactly-if}
 use Rattle.whole.specs.Bounds.{Each}
 use Rattle.whole.specs.Range.{firstOutside}
-use Rattle.whole.proofs.Range.{outside-le, none-each}
+use Rattle.whole.proofs.Range.{outside-le, none-each, each-none}
 use Rattle.refusal.specs.Number.{said}
 use Rattle.refusal.specs.declared.Answer.{Answer}
+use Rattle.refusal.specs.declared.Refusal.{Refusal}
 use Rattle.refusal.specs.declared.Refusal.the-variants as refusal
-use Rattle.refusal.proofs.Same.{says-exactly-if}
+use Rattle.refusal.proofs.Same.{says-same, says-exactly-if}
 use Rattle.transform.specs.Entry.{outside}
 use Rattle.quantizer.specs.Range.{highest}
-use Rattle.residual.specs.Entry.{levelsTests, Levels, rebuildTests, Rebuilds, rangeTest, firstWide}
+use Rattle.quantizer.specs.Range as built
+use Rattle.quantizer.specs.declared.Built.{Built}
+use Rattle.quantizer.specs.declared.Built.the-variants.{Legal, Refused}
+use Rattle.quantizer.specs.declared.Quantizer.{Quantizer}
+use Rattle.residual.specs.Entry.{levelsTests, Levels, rebuildTests, Rebuilds, withDcTests, RebuildsWithDc, rangeTest, levelTests, Accepts, firstWide}
 use Rattle.residual.specs.Order.{inZigzag}
-use Rattle.residual.specs.Rebuild.{numbersOf}
 use Rattle.residual.proofs.Order.{length-zigzag, zigzag-each}
 
 -- a list whose first wide number is its end has sixteen-bit numbers only
 pub wide-each : (l : List ℤ) → length l ≤ firstWide l → Each 32768 l
 wide-each l h = none-each (negsuc 32767) (pos 32767) l 32768 tt tt h
+
+-- and back, at 32767
+pub wide-none : (l : List ℤ) → Each 32767 l → firstWide l ≡ length l
+wide-none l h = each-none (negsuc 32767) (pos 32767) l 32767 tt tt h
 
 -- ---- levels
 
@@ -70,35 +78,66 @@ module _ (d : List ℤ) where
   pub range-each : length d ≡ 16 → 16 ≤ firstWide (inZigzag d) → Each 32768 d
   range-each e l = zigzag-each 32768 d e (wide-each (inZigzag d) (omega (arith, length-zigzag d)))
 
--- ---- rebuild
+-- ---- LENGTH, QUANTIZER, LEVEL
 
-module _ (qp : ℕ) (p : List ℕ) (l : List ℤ) (o : List ℕ) where
-  pub rebuild-short : (length p ≡ 16 → ⊥) → chain (rebuildTests qp p l o) ≡ stop refusal.Length
-  rebuild-short h = simp (ne-eqb (length p) 16 h)
+module _ (n from qp predicted : ℕ) (l : List ℤ) (room : ℕ) where
+  pub accepts-short : (predicted ≡ 16 → ⊥) → chain (levelTests n from qp predicted l room) ≡ stop refusal.Length
+  accepts-short h = simp (ne-eqb predicted 16 h)
 
-  module _ (h : length p ≡ 16) where
-    pub rebuild-few : (length l ≡ 16 → ⊥) → chain (rebuildTests qp p l o) ≡ stop refusal.Length
-    rebuild-few k = simp (eq-eqb (length p) 16 h, ne-eqb (length l) 16 k)
+  module _ (h : predicted ≡ 16) where
+    pub accepts-few : (length l ≡ n → ⊥) → chain (levelTests n from qp predicted l room) ≡ stop refusal.Length
+    accepts-few k = simp (eq-eqb predicted 16 h, ne-eqb (length l) n k)
 
-    module _ (k : length l ≡ 16) where
-      pub rebuild-no-room : (length o ≡ 16 → ⊥) → chain (rebuildTests qp p l o) ≡ stop refusal.Length
-      rebuild-no-room m = simp (eq-eqb (length p) 16 h, eq-eqb (length l) 16 k, ne-eqb (length o) 16 m)
+    module _ (k : length l ≡ n) where
+      pub accepts-no-room : (room ≡ 16 → ⊥) → chain (levelTests n from qp predicted l room) ≡ stop refusal.Length
+      accepts-no-room m = simp (eq-eqb predicted 16 h, eq-eqb (length l) n k, ne-eqb room 16 m)
 
-      module _ (m : length o ≡ 16) where
-        pub rebuild-high : highest < qp → chain (rebuildTests qp p l o) ≡ stop (refusal.Quantizer 0)
-        rebuild-high q = simp (eq-eqb (length p) 16 h, eq-eqb (length l) 16 k, eq-eqb (length o) 16 m, lt-leb qp highest q)
+      module _ (m : room ≡ 16) where
+        pub accepts-high : highest < qp → chain (levelTests n from qp predicted l room) ≡ stop (refusal.Quantizer 0)
+        accepts-high q = simp (eq-eqb predicted 16 h, eq-eqb (length l) n k, eq-eqb room 16 m, lt-leb qp highest q)
 
         module _ (q : qp ≤ highest) where
-          pub rebuild-level : firstWide l < 16 → chain (rebuildTests qp p l o) ≡ stop (refusal.Level (firstWide l))
-          rebuild-level w =
-              let n : (firstWide l ≡ 16 → ⊥) = λ e. omega arith in
-              simp (eq-eqb (length p) 16 h, eq-eqb (length l) 16 k, eq-eqb (length o) 16 m, le-leb qp highest q, ne-eqb (firstWide l) 16 n)
+          pub accepts-wide : firstWide l < n → chain (levelTests n from qp predicted l room) ≡ stop (refusal.Level (from + firstWide l))
+          accepts-wide w =
+              let z : (firstWide l ≡ n → ⊥) = λ e. omega arith in
+              simp (eq-eqb predicted 16 h, eq-eqb (length l) n k, eq-eqb room 16 m, le-leb qp highest q, ne-eqb (firstWide l) n z)
 
-          -- the range decides
-          pub rebuild-range : 16 ≤ firstWide l → chain (rebuildTests qp p l o) ≡ chain (rangeTest (numbersOf qp l) ∷ [])
-          rebuild-range w =
-              let e : firstWide l ≡ 16 = omega (arith, outside-le (negsuc 32767) (pos 32767) l) in
-              simp (eq-eqb (length p) 16 h, eq-eqb (length l) 16 k, eq-eqb (length o) 16 m, le-leb qp highest q, eq-eqb (firstWide l) 16 e)
+          pub accepts-all : n ≤ firstWide l → chain (levelTests n from qp predicted l room) ≡ pass
+          accepts-all w =
+              let e : firstWide l ≡ n = omega (arith, outside-le (negsuc 32767) (pos 32767) l) in
+              simp (eq-eqb predicted 16 h, eq-eqb (length l) n k, eq-eqb room 16 m, le-leb qp highest q, eq-eqb (firstWide l) n e)
+
+  -- what a caller learns where all pass
+  pub record Accepted (q : Quantizer) : Type 0 where
+    pub passed : chain (levelTests n from qp predicted l room) ≡ pass
+    pub long : predicted ≡ 16
+    pub count : length l ≡ n
+    pub space : room ≡ 16
+    pub legal : qp ≤ highest
+    pub number : q .qp ≡ qp
+    pub small : Each 32768 l
+
+  pub accepted-legal : {b : Built} {q : Quantizer} → Accepts n from qp predicted l room b → b ≡ Legal q → Accepted q
+  accepted-legal {b} {q} p e =
+      let v : chain (levelTests n from qp predicted l room) ≡ pass = sym (says-same (p .says)) ∙ ap built.said e in
+      let a = chain-exactly-if (levelTests n from qp predicted l room) .passes .0 v in
+      let w : firstWide l ≡ n = eqb-true (firstWide l) n (a .1 .1 .1 .1 .0) in
+      let k : length l ≡ n = eqb-true (length l) n (a .1 .0) in
+      record {
+        passed = v;
+        long = eqb-true predicted 16 (a .0);
+        count = k;
+        space = eqb-true room 16 (a .1 .1 .0);
+        legal = leb-true qp highest (a .1 .1 .1 .0);
+        number = sym (ap built.qpOf e) ∙ p .value ∙ ap (λ (x : Verdict Refusal). written x qp 0) v;
+        small = wide-each l (omega arith);
+      }
+
+  pub accepted-refused : {b : Built} {r : Refusal} → Accepts n from qp predicted l room b → b ≡ Refused r → chain (levelTests n from qp predicted l room) ≡ stop r
+  accepted-refused {b} {r} p e = sym (says-same (p .says)) ∙ ap built.said e
 
 pub rebuild-refuses-exactly-if : (qp : ℕ) (p : List ℕ) (l : List ℤ) (before after : List ℕ) (r : Answer) → Rebuilds qp p l before r after → ExactlyIf (rebuildTests qp p l before) (said r)
 rebuild-refuses-exactly-if qp p l before after r e = says-exactly-if (rebuildTests qp p l before) (e .says)
+
+pub rebuild-with-dc-refuses-exactly-if : (qp : ℕ) (p : List ℕ) (dc : ℤ) (ac : List ℤ) (before after : List ℕ) (r : Answer) → RebuildsWithDc qp p dc ac before r after → ExactlyIf (withDcTests qp p dc ac before) (said r)
+rebuild-with-dc-refuses-exactly-if qp p dc ac before after r e = says-exactly-if (withDcTests qp p dc ac before) (e .says)

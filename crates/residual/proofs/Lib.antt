@@ -1,5 +1,7 @@
 pub mod Entry
+pub mod Measured
 pub mod Order
+pub mod Own
 pub mod Quantize
 pub mod Rescale
 pub mod Unique

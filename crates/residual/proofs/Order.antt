@@ -1,6 +1,6 @@
 -- Laws of the zigzag order.
 --     places-again, zigzag-again     the two orders undo each other
---     zigzag-each, places-each       a bound of each number, in the one order and in the other
+--     in-zigzag-each, places-each, zigzag-each       a bound of each number, from the one order to the other
 -- Assumes nothing.
 use mathlib.Core.Path.{_≡_, refl, sym, ap, subst, _∙_}
 use mathlib.Core.List.{List}
@@ -46,6 +46,10 @@ module _ (l : List ℤ) where
 pub places-each : (B : ℕ) (l : List ℤ) → Each B l → Each B (inPlaces l)
 unfolding inPlaces
 places-each B l h = each-tab B 16 (λ place. getD l (stepOf place) (pos 0)) (λ place k. each-at B l h (stepOf place))
+
+pub in-zigzag-each : (B : ℕ) (l : List ℤ) → Each B l → Each B (inZigzag l)
+unfolding inZigzag
+in-zigzag-each B l h = each-tab B 16 (λ step. getD l (zigzagOf step) (pos 0)) (λ step k. each-at B l h (zigzagOf step))
 
 pub zigzag-each : (B : ℕ) (l : List ℤ) → length l ≡ 16 → Each B (inZigzag l) → Each B l
 zigzag-each B l long h = subst (Each B) (places-again l long) (places-each B (inZigzag l) h)

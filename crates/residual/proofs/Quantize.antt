@@ -61,7 +61,7 @@ quantized-by qp residual =
 
 -- ---- how large a level is
 
-size-signed : (y : ℤ) (size : ℕ) → natAbs (signed y size) ≡ size
+pub size-signed : (y : ℤ) (size : ℕ) → natAbs (signed y size) ≡ size
 size-signed (pos y) size = refl
 size-signed (negsuc y) size = abs-neg (pos size)
 

@@ -1,6 +1,17 @@
 -- The contracts of `residual` determine what its functions answer and leave in their outputs. Assumes nothing.
 use mathlib.Core.Path.{_≡_, refl, sym, _∙_}
+use mathlib.Core.List.{List}
+use Prim.Native.Nat.{ℕ}
+use denote.Ref.{now}
+use lib.IntN.{ℤ}
 use Rattle.unique.specs.Unique.{Unique}
+use Rattle.refusal.proofs.Same.{says-same, same-answer}
+use Rattle.residual.proofs.levels.Kinds as levels
+use Rattle.residual.proofs.levels.Reads as levels-reads
+use Rattle.residual.proofs.rebuild.Kinds as rebuild
+use Rattle.residual.proofs.rebuild.Reads as rebuild-reads
+use Rattle.residual.proofs.rebuild_with_dc.Kinds as rebuild-with-dc
+use Rattle.residual.proofs.rebuild_with_dc.Reads as rebuild-with-dc-reads
 use Rattle.residual.proofs.inner.scale.Kinds as scale
 use Rattle.residual.proofs.inner.scale.Reads as scale-reads
 use Rattle.residual.proofs.inner.third.Kinds as third
@@ -46,3 +57,12 @@ rescaled-unique κs a x y e f p q = (p ∙ sym q, refl)
 
 pub samples-unique : Unique 0 samples.ps samples.r samples-reads.Learnt (Unit {0}) (λ κs e. tt)
 samples-unique κs a x y e f p q = (p ∙ sym q, refl)
+
+pub levels-unique : Unique 2 levels.ps levels.r levels-reads.Learnt (List ℤ) (λ κs e. now (e .1 .1 .0))
+levels-unique κs a x y e f p q = (same-answer x y (says-same (p .says) ∙ sym (says-same (q .says))), p .wrote ∙ sym (q .wrote))
+
+pub rebuild-unique : Unique 3 rebuild.ps rebuild.r rebuild-reads.Learnt (List ℕ) (λ κs e. now (e .1 .1 .1 .0))
+rebuild-unique κs a x y e f p q = (same-answer x y (says-same (p .says) ∙ sym (says-same (q .says))), p .wrote ∙ sym (q .wrote))
+
+pub rebuild-with-dc-unique : Unique 3 rebuild-with-dc.ps rebuild-with-dc.r rebuild-with-dc-reads.Learnt (List ℕ) (λ κs e. now (e .1 .1 .1 .1 .0))
+rebuild-with-dc-unique κs a x y e f p q = (same-answer x y (says-same (p .says) ∙ sym (says-same (q .says))), p .wrote ∙ sym (q .wrote))

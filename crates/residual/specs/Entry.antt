@@ -1,7 +1,7 @@
 -- The entry points: tests in the table's order, and what each leaves (01, "What is sent back, and in which order it is tested").
 -- Assumes nothing.
 use mathlib.Core.Path.{_≡_}
-use mathlib.Core.List.{List, [], _∷_}
+use mathlib.Core.List.{List, [], _∷_, _++_}
 use Prim.Native.Nat.{ℕ, _+_}
 use lib.Dec.{eqb, leb}
 use lib.IntN.{ℤ, pos, negsuc}
@@ -14,6 +14,8 @@ use Rattle.refusal.specs.declared.Refusal.the-variants as refusal
 use Rattle.whole.specs.Range.{firstOutside}
 use Rattle.transform.specs.Entry.{outside}
 use Rattle.quantizer.specs.Range.{highest}
+use Rattle.quantizer.specs.Range as built
+use Rattle.quantizer.specs.declared.Built.{Built}
 use Rattle.residual.specs.Levels.{levelsOf}
 use Rattle.residual.specs.Order.{inZigzag}
 use Rattle.residual.specs.Rebuild.{samplesOf, numbersOf, numbersWithDc}
@@ -54,33 +56,34 @@ pub record Finishes (prediction : List ℕ) (d : List ℤ) (out : List ℕ) (r :
   pub says : Says (said r) (chain (rangeTest d ∷ []))
   pub wrote : after ≡ written (chain (rangeTest d ∷ [])) (samplesOf prediction d) out
 
+-- ---- before it: LENGTH, QUANTIZER, LEVEL of n levels whose indexes count from `from`
+
+abbrev pub levelTests : (n from qp predicted : ℕ) (levels : List ℤ) (room : ℕ) → List (Test Refusal)
+levelTests n from qp predicted levels room =
+    test (eqb predicted 16) refusal.Length
+    ∷ lengthTest n levels
+    ∷ test (eqb room 16) refusal.Length
+    ∷ quantizerTest qp
+    ∷ test (eqb (firstWide levels) n) (refusal.Level (from + firstWide levels))
+    ∷ []
+
+pub record Accepts (n from qp predicted : ℕ) (levels : List ℤ) (room : ℕ) (b : Built) : Type 0 where
+  pub says : Says (built.said b) (chain (levelTests n from qp predicted levels room))
+  pub value : built.qpOf b ≡ written (chain (levelTests n from qp predicted levels room)) qp 0
+
 -- ---- rebuild: LENGTH, QUANTIZER, LEVEL, RANGE
 
 abbrev pub rebuildTests : ℕ → List ℕ → List ℤ → List ℕ → List (Test Refusal)
-rebuildTests qp prediction levels out =
-    lengthTest 16 prediction
-    ∷ lengthTest 16 levels
-    ∷ lengthTest 16 out
-    ∷ quantizerTest qp
-    ∷ test (eqb (firstWide levels) 16) (refusal.Level (firstWide levels))
-    ∷ rangeTest (numbersOf qp levels)
-    ∷ []
+rebuildTests qp prediction levels out = levelTests 16 0 qp (length prediction) levels (length out) ++ (rangeTest (numbersOf qp levels) ∷ [])
 
 pub record Rebuilds (qp : ℕ) (prediction : List ℕ) (levels : List ℤ) (out : List ℕ) (r : Answer) (after : List ℕ) : Type 0 where
   pub says : Says (said r) (chain (rebuildTests qp prediction levels out))
   pub wrote : after ≡ written (chain (rebuildTests qp prediction levels out)) (samplesOf prediction (numbersOf qp levels)) out
 
--- ---- rebuild_with_dc: the same with a given DC; "15 AC levels count from 1", "a given DC is 0"
+-- ---- rebuild_with_dc: "15 AC levels count from 1", "a given DC is 0"
 
 abbrev pub withDcTests : ℕ → List ℕ → ℤ → List ℤ → List ℕ → List (Test Refusal)
-withDcTests qp prediction dc ac out =
-    lengthTest 16 prediction
-    ∷ lengthTest 15 ac
-    ∷ lengthTest 16 out
-    ∷ quantizerTest qp
-    ∷ test (eqb (firstWide ac) 15) (refusal.Level (1 + firstWide ac))
-    ∷ rangeTest (numbersWithDc qp dc ac)
-    ∷ []
+withDcTests qp prediction dc ac out = levelTests 15 1 qp (length prediction) ac (length out) ++ (rangeTest (numbersWithDc qp dc ac) ∷ [])
 
 pub record RebuildsWithDc (qp : ℕ) (prediction : List ℕ) (dc : ℤ) (ac : List ℤ) (out : List ℕ) (r : Answer) (after : List ℕ) : Type 0 where
   pub says : Says (said r) (chain (withDcTests qp prediction dc ac out))

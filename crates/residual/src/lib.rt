@@ -1,7 +1,8 @@
 // From residual to levels and back (01, "Transform, quantizer, rescaling"; ITU-T H.264, 8.5).
 ghost use mathlib.Core.Path.{_≡_};
+ghost use Prim.Native.Nat.{_≤_};
 ghost use lib.ListN.{length};
-ghost use Rattle.residual.specs.Entry.{Levels, Rebuilds, RebuildsWithDc, Finishes};
+ghost use Rattle.residual.specs.Entry.{Levels, Rebuilds, RebuildsWithDc, Accepts, Finishes};
 use quantizer::Built;
 use quantizer::Quantizer;
 use refusal::Answer;
@@ -50,28 +51,57 @@ fn finished(prediction: &[u8], numbers: [i32; 16], out: &mut [u8]) -> Answer
     Answer::Done
 }
 
+// LENGTH, QUANTIZER and LEVEL of n levels whose indexes count from `from`.
+fn accepted(n: usize, from: usize, qp: u8, predicted: usize, levels: &[i32], room: usize) -> Built
+    requires { ⌜ from ≤ 1 ⌝ }
+    ensures { λ r. ⌜ Accepts n from qp predicted (now (levels .entry)) room r ⌝ }
+{
+    if predicted != 16 {
+        return Built::Refused(Refusal::Length);
+    }
+    if levels.len() != n {
+        return Built::Refused(Refusal::Length);
+    }
+    if room != 16 {
+        return Built::Refused(Refusal::Length);
+    }
+    let Built::Legal(quantizer) = Quantizer::new(qp) else {
+        return Built::Refused(Refusal::Quantizer(0));
+    };
+    let place = whole::inner::first_outside(levels, -32768, 32767);
+    if place < n {
+        return Built::Refused(Refusal::Level(from + place));
+    }
+    Built::Legal(quantizer)
+}
+
 // The samples of a prediction and sixteen levels in zigzag order.
 pub fn rebuild(qp: u8, prediction: &[u8], levels: &[i32], out: &mut [u8]) -> Answer
     ensures { λ r. ⌜ Rebuilds qp (now (prediction .entry)) (now (levels .entry)) (now (out .entry)) r (now (out .exit)) ⌝ }
 {
-    if prediction.len() != 16 {
-        return Answer::Refused(Refusal::Length);
+    match accepted(16, 0, qp, prediction.len(), levels, out.len()) {
+        Built::Refused(refusal) => Answer::Refused(refusal),
+        Built::Legal(quantizer) => {
+            let mut l = [0i32; 16];
+            whole::inner::copy(levels, &mut l);
+            let numbers = inner::rescaled(quantizer, inner::in_places(l));
+            finished(prediction, numbers, out)
+        }
     }
-    if levels.len() != 16 {
-        return Answer::Refused(Refusal::Length);
+}
+
+// The same where the DC comes rescaled, with fifteen AC levels in zigzag order.
+pub fn rebuild_with_dc(qp: u8, prediction: &[u8], dc: i32, ac: &[i32], out: &mut [u8]) -> Answer
+    ensures { λ r. ⌜ RebuildsWithDc qp (now (prediction .entry)) dc (now (ac .entry)) (now (out .entry)) r (now (out .exit)) ⌝ }
+{
+    match accepted(15, 1, qp, prediction.len(), ac, out.len()) {
+        Built::Refused(refusal) => Answer::Refused(refusal),
+        Built::Legal(quantizer) => {
+            let mut l = [0i32; 16];
+            whole::inner::copy(ac, &mut l[1..]);
+            let mut numbers = inner::rescaled(quantizer, inner::in_places(l));
+            numbers[0] = dc;
+            finished(prediction, numbers, out)
+        }
     }
-    if out.len() != 16 {
-        return Answer::Refused(Refusal::Length);
-    }
-    let Built::Legal(quantizer) = Quantizer::new(qp) else {
-        return Answer::Refused(Refusal::Quantizer(0));
-    };
-    let place = whole::inner::first_outside(levels, -32768, 32767);
-    if place < 16 {
-        return Answer::Refused(Refusal::Level(place));
-    }
-    let mut l = [0i32; 16];
-    whole::inner::copy(levels, &mut l);
-    let numbers = inner::rescaled(quantizer, inner::in_places(l));
-    finished(prediction, numbers, out)
 }

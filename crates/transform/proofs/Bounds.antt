@@ -6,12 +6,12 @@
 use mathlib.Core.Path.{_≡_, sym, ap, subst, _∙_}
 use mathlib.Core.Bool.{Bool, true, false, not, cond}
 use mathlib.Core.List.{List}
-use Prim.Native.Nat.{ℕ, suc, _+_, _-_, _*_, _/_, _%_, _<_, _≤_}
+use Prim.Native.Nat.{ℕ, suc, _-_, _*_, _/_, _%_, _<_, _≤_}
 use native.Mathlib.Nat.{mul-le-mul, le-refl}
 use native.Mathlib.Omega.{arith}
 use lib.Dec.{T, ltb, leb, ltb→lt, nltb→le, leb→le}
 use lib.IntN.{ℤ, pos, negsuc}
-use lib.ListN.{length, getD}
+use lib.ListN.{getD}
 use lib.Signed.{shrZ}
 use Rattle.lists.specs.Every.{every}
 use Rattle.lists.proofs.Every.{every-at}
@@ -23,12 +23,12 @@ use Rattle.quantizer.specs.declared.Class.{Class}
 use Rattle.quantizer.specs.declared.Class.the-variants as class
 use Rattle.transform.specs.Forward.{C, forward}
 use Rattle.transform.specs.Hadamard.{H4, H2, hadamard}
-use Rattle.transform.specs.Inverse.{back, rounded, inverse}
-use Rattle.transform.specs.Matrix.{Matrix, eachRow, raster, entries}
+use Rattle.transform.specs.Inverse.{rounded, inverse}
+use Rattle.transform.specs.Matrix.{Matrix, raster}
 use Rattle.transform.proofs.Products.{around}
 use Rattle.transform.proofs.Rows.{back-grows}
-use Rattle.transform.proofs.Sides.{forward-around, hadamard-around, H4-symmetric, H2-symmetric}
-use Rattle.transform.proofs.Squares.{entries-each, length-entries, raster-within}
+use Rattle.transform.proofs.Sides.{forward-around, hadamard-around, length-forward, H4-symmetric, H2-symmetric}
+use Rattle.transform.proofs.Squares.{entries-each, raster-within}
 use Rattle.transform.proofs.Through.{reach, around-within}
 
 -- ---- forward
@@ -60,7 +60,7 @@ module _ (x : List ℤ) (h : Each 255 x) where
   forward-each =
       each-from 9180 (forward x)
       (λ k l.
-      let m : k < 16 = rw (ap length (forward-around x) ∙ length-entries 4 (around 4 C (raster 4 x))) at l in
+      let m : k < 16 = rw length-forward at l in
       let most = leb→le (mostOf (classAtPlace k)) 9180 (every-at 16 (λ k. leb (mostOf (classAtPlace k)) 9180) tt k m) in
       let found = forward-within k m in
       record { size = omega arith })

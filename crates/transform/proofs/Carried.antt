@@ -6,55 +6,54 @@
 --     coefficients-exactly-if       which sixteen numbers are the coefficients of a block in -255..255
 --     twice-through                 twice through H on both sides, over the size; twice-through-4: 16 W; twice-through-2: 4 W
 -- Assumes nothing.
-use mathlib.Core.Path.{_≡_, refl, sym, ap, subst, _∙_}
+use mathlib.Core.Path.{_≡_, refl, sym, ap, _∙_}
 use mathlib.Core.Logic.{_↔_}
-use mathlib.Core.List.{List, [], _∷_, map}
-use Prim.Native.Nat.{ℕ, zero, suc, _+_, _*_, _<_}
+use mathlib.Core.List.{List, [], _∷_}
+use Prim.Native.Nat.{ℕ, suc, _+_, _*_, _<_}
 use native.Mathlib.Omega.{arith}
-use lib.IntN.{ℤ, pos, negsuc, _+ℤ_, _*ℤ_, *ℤ-comm}
+use lib.IntN.{ℤ, pos, _*ℤ_}
 use lib.ListN.{length, getD, length-map}
 use lib.Seq.{ext-getD}
-use Rattle.lists.specs.Tab.{tab}
-use Rattle.lists.proofs.Tab.{length-tab, getD-tab, getD-grid}
+use Rattle.lists.proofs.Tab.{getD-tab}
 use Rattle.whole.specs.Bounds.{Within, Each}
 use Rattle.whole.specs.Sum.{sum, unit}
 use Rattle.whole.proofs.Laws.{up, down, diff-self, diff-mul, same}
-use Rattle.whole.proofs.Ring.{ring, var, con, _⊕_, _⊗_}
+use Rattle.whole.proofs.Ring.{ring, var, _⊗_}
 use Rattle.whole.proofs.Steps.{each-at}
 use Rattle.whole.proofs.Sums.{sum-ext, sum-scale, sum-rows, same-below}
 use Rattle.quantizer.specs.Tables.{classAtPlace}
 use Rattle.transform.specs.Carried.{weightOf, weighted, carriedBack, scaled, products}
 use Rattle.transform.specs.Forward.{C, forward}
 use Rattle.transform.specs.Hadamard.{H4, H2, hadamard}
-use Rattle.transform.specs.Matrix.{Line, Matrix, product, transposed, raster, entries}
+use Rattle.transform.specs.Matrix.{Line, Matrix, product, raster, entries}
 use Rattle.transform.proofs.Products.{around, Undoes, scaled-at, there-and-back, agree}
-use Rattle.transform.proofs.Squares.{entries-at, entries-same, entries-of, length-entries}
-use Rattle.transform.proofs.Sides.{forward-around, hadamard-around, H4-symmetric, H2-symmetric}
+use Rattle.transform.proofs.Squares.{entries-at, entries-same, length-entries}
+use Rattle.transform.proofs.Sides.{forward-around, hadamard-around, length-forward, H4-symmetric, H2-symmetric}
 
 -- ---- one dimension: weights 5, 2, 5, 2, and s = 20
 
-w : Line
-w = λ k. getD (pos 5 ∷ pos 2 ∷ pos 5 ∷ pos 2 ∷ []) k (pos 0)
+lineWeight : Line
+lineWeight = λ k. getD (pos 5 ∷ pos 2 ∷ pos 5 ∷ pos 2 ∷ []) k (pos 0)
 
 -- C-transposed, each column by its weight
 Back : Matrix
-Back = λ i k. C k i *ℤ w k
+Back = λ i k. C k i *ℤ lineWeight k
 
 back-undoes : Undoes 4 Back C (pos 20)
-unfolding Back w
+unfolding Back lineWeight
 back-undoes = same-below 4 (product 4 Back C) (λ i j. pos 20 *ℤ unit i j) tt
 
 undoes-back : Undoes 4 C Back (pos 20)
-unfolding Back w
+unfolding Back lineWeight
 undoes-back = same-below 4 (product 4 C Back) (λ i j. pos 20 *ℤ unit i j) tt
 
 -- the weight of a place is that of its row times that of its column
-weight : (i j : ℕ) → i < 4 → j < 4 → weightOf (classAtPlace (4 * i + j)) ≡ w i *ℤ w j
-unfolding w
-weight = same-below 4 (λ i j. weightOf (classAtPlace (4 * i + j))) (λ i j. w i *ℤ w j) tt
+weight : (i j : ℕ) → i < 4 → j < 4 → weightOf (classAtPlace (4 * i + j)) ≡ lineWeight i *ℤ lineWeight j
+unfolding lineWeight
+weight = same-below 4 (λ i j. weightOf (classAtPlace (4 * i + j))) (λ i j. lineWeight i *ℤ lineWeight j) tt
 
 -- the number in a row and a column of a weighted list
-weighted-at : (y : List ℤ) (i j : ℕ) → i < 4 → j < 4 → raster 4 (weighted y) i j ≡ (w i *ℤ w j) *ℤ raster 4 y i j
+weighted-at : (y : List ℤ) (i j : ℕ) → i < 4 → j < 4 → raster 4 (weighted y) i j ≡ (lineWeight i *ℤ lineWeight j) *ℤ raster 4 y i j
 unfolding weighted
 weighted-at y i j h l =
     getD-tab 16 (λ place. weightOf (classAtPlace place) *ℤ getD y place (pos 0)) (4 * i + j) (pos 0) (omega arith)
@@ -68,9 +67,9 @@ carried-around y = entries-same 4 _ _ (λ i j h l. sum-ext 4 _ _ (λ a m.
     ap (λ (z : ℤ). C a i *ℤ z)
     (sum-ext 4 _ _ (λ b n.
     ap (λ (z : ℤ). z *ℤ C b j) (weighted-at y a b m n)
-    ∙ ring (w a ∷ w b ∷ raster 4 y a b ∷ C b j ∷ []) (((var 0 ⊗ var 1) ⊗ var 2) ⊗ var 3) (var 0 ⊗ (var 2 ⊗ (var 3 ⊗ var 1))) refl)
-    ∙ sym (sum-scale 4 (w a) (λ b. raster 4 y a b *ℤ (C b j *ℤ w b))))
-    ∙ ring (C a i ∷ w a ∷ sum 4 (λ b. raster 4 y a b *ℤ (C b j *ℤ w b)) ∷ []) (var 0 ⊗ (var 1 ⊗ var 2)) ((var 0 ⊗ var 1) ⊗ var 2) refl))
+    ∙ ring (lineWeight a ∷ lineWeight b ∷ raster 4 y a b ∷ C b j ∷ []) (((var 0 ⊗ var 1) ⊗ var 2) ⊗ var 3) (var 0 ⊗ (var 2 ⊗ (var 3 ⊗ var 1))) refl)
+    ∙ sym (sum-scale 4 (lineWeight a) (λ b. raster 4 y a b *ℤ (C b j *ℤ lineWeight b))))
+    ∙ ring (C a i ∷ lineWeight a ∷ sum 4 (λ b. raster 4 y a b *ℤ (C b j *ℤ lineWeight b)) ∷ []) (var 0 ⊗ (var 1 ⊗ var 2)) ((var 0 ⊗ var 1) ⊗ var 2) refl))
 
 pub carried-back : (x : List ℤ) → length x ≡ 16 → carriedBack (forward x) ≡ scaled (pos 400) x
 carried-back x e =
@@ -88,10 +87,10 @@ pub products-agree : (x z : List ℤ) → pos 400 *ℤ products x z ≡ products
 unfolding products Back
 products-agree x z =
     ap (λ (t : ℤ). pos 400 *ℤ t) (sum-rows 4 4 (λ place. getD x place (pos 0) *ℤ getD z place (pos 0)))
-    ∙ agree 4 w C (pos 20) back-undoes (raster 4 x) (raster 4 z)
+    ∙ agree 4 lineWeight C (pos 20) back-undoes (raster 4 x) (raster 4 z)
     ∙ sum-ext 4 _ _ (λ i h. sum-ext 4 _ _ (λ j l.
-    ring (w i ∷ w j ∷ around 4 C (raster 4 x) i j ∷ around 4 C (raster 4 z) i j ∷ []) ((var 0 ⊗ var 1) ⊗ (var 2 ⊗ var 3)) (((var 0 ⊗ var 1) ⊗ var 2) ⊗ var 3) refl
-    ∙ (λ t. ((w i *ℤ w j) *ℤ sym (coefficient x i j h l) t) *ℤ sym (coefficient z i j h l) t)
+    ring (lineWeight i ∷ lineWeight j ∷ around 4 C (raster 4 x) i j ∷ around 4 C (raster 4 z) i j ∷ []) ((var 0 ⊗ var 1) ⊗ (var 2 ⊗ var 3)) (((var 0 ⊗ var 1) ⊗ var 2) ⊗ var 3) refl
+    ∙ (λ t. ((lineWeight i *ℤ lineWeight j) *ℤ sym (coefficient x i j h l) t) *ℤ sym (coefficient z i j h l) t)
     ∙ ap (λ (t : ℤ). t *ℤ raster 4 (forward z) i j) (sym (weighted-at (forward x) i j h l))))
     ∙ sym (sum-rows 4 4 (λ place. getD (weighted (forward x)) place (pos 0) *ℤ getD (forward z) place (pos 0)))
   where
@@ -140,9 +139,6 @@ quotients (z ∷ l) h =
     let first = h 0 (omega arith) in
     let rest = quotients l (λ k m. h (suc k) (omega arith)) in
     record { block = first .quotient ∷ rest .block; small = (first .small, rest .small); is = λ i. first .is i ∷ rest .is i }
-
-length-forward : (x : List ℤ) → length (forward x) ≡ 16
-length-forward x = ap length (forward-around x) ∙ length-entries 4 (around 4 C (raster 4 x))
 
 length-carried : (y : List ℤ) → length (carriedBack y) ≡ 16
 length-carried y = ap length (carried-around y) ∙ length-entries 4 (around 4 Back (raster 4 y))

@@ -6,13 +6,11 @@
 -- Assumes nothing.
 use mathlib.Core.Path.{_≡_, refl, sym, ap, _∙_}
 use mathlib.Core.List.{List, [], _∷_}
-use mathlib.Core.Bool.{Bool, cond}
 use Prim.Native.Nat.{ℕ, _+_, _*_, _<_}
-use lib.Dec.{eqb}
 use lib.IntN.{ℤ, pos, _*ℤ_, *ℤ-comm}
 use lib.ListN.{length, getD, length-map, List·getD-map}
 use Rattle.whole.specs.Sum.{sum, unit}
-use Rattle.whole.proofs.Ring.{ring, var, con, _⊕_, _⊗_}
+use Rattle.whole.proofs.Ring.{ring, var, con, _⊗_}
 use Rattle.whole.proofs.Sums.{sum-ext, sum-scale, sum-swap, picked}
 use Rattle.transform.specs.Block.{through}
 use Rattle.transform.specs.Carried.{scaled}

@@ -3,23 +3,24 @@
 --     forward-row, inverse-row, hadamard-row, hadamard-square  over ℤ it is the row through C, the inverse's sums, the row through H, and all of the 2x2
 --     back-local, back-grows                   the inverse's sums look at four numbers, and are four times as large at the most
 --     gathered                                 sixteen numbers, read one by one
+--     rows-each                                bounds of a block's rows
 --     rows-flat                                a block whose rows are f of a block's rows
 -- Assumes nothing.
-use mathlib.Core.Path.{_≡_, refl, sym, ap, subst, _∙_}
+use mathlib.Core.Path.{_≡_, refl, sym, ap, _∙_}
 use mathlib.Core.List.{List, [], _∷_}
 use Prim.Native.Nat.{ℕ, zero, suc, _+_, _*_, _<_}
 use native.Mathlib.Omega.{arith}
-use lib.Dec.{T, leb}
+use lib.Dec.{T}
 use lib.IntN.{ℤ, pos}
 use lib.ListN.{length, getD}
 use mir.Syntax.{w32}
 use Rattle.lists.specs.Tab.{tab}
 use Rattle.lists.proofs.Tab.{getD-tab, tab-of}
-use Rattle.whole.specs.Bounds.{Within, Each}
+use Rattle.whole.specs.Bounds.{Each}
 use Rattle.whole.proofs.Ring.{Expression, var, con, _⊕_, _⊗_, rings}
-use Rattle.whole.proofs.Steps.{Code, inp, num, add, sub, shr, each-at}
-use Rattle.whole.proofs.Lists.{gather, ideals, expressions, oks, mosts, sizes}
-use Rattle.transform.specs.Block.{row, flat, line, byRow, through, wide}
+use Rattle.whole.proofs.Steps.{Code, inp, add, sub, shr, each-at}
+use Rattle.whole.proofs.Lists.{gather, each-gather, ideals, expressions, oks, mosts, sizes}
+use Rattle.transform.specs.Block.{row, flat, line, byRow, through}
 use Rattle.transform.specs.Forward.{C}
 use Rattle.transform.specs.Hadamard.{H4, H2, hadamard}
 use Rattle.transform.specs.Inverse.{butterfly, back}
@@ -65,31 +66,31 @@ hadamardSquare =
 
 -- ---- and the matrices' rows, for the solver
 
-abbrev sumE : ℕ → (ℕ → Expression) → Expression
-sumE zero f = con (pos 0)
-sumE (suc n) f = sumE n f ⊕ f n
+abbrev sumExpression : ℕ → (ℕ → Expression) → Expression
+sumExpression zero f = con (pos 0)
+sumExpression (suc n) f = sumExpression n f ⊕ f n
 
-abbrev throughE : Matrix → ℕ → Expression
-throughE M place = sumE 4 (λ k. con (M place k) ⊗ var k)
+abbrev throughExpression : Matrix → ℕ → Expression
+throughExpression M place = sumExpression 4 (λ k. con (M place k) ⊗ var k)
 
-abbrev throughEs : Matrix → List Expression
-throughEs M = throughE M 0 ∷ throughE M 1 ∷ throughE M 2 ∷ throughE M 3 ∷ []
+abbrev throughExpressions : Matrix → List Expression
+throughExpressions M = throughExpression M 0 ∷ throughExpression M 1 ∷ throughExpression M 2 ∷ throughExpression M 3 ∷ []
 
 pub forward-row : (a b c d : ℤ) → ideals (a ∷ b ∷ c ∷ d ∷ []) forwardRow ≡ tab 4 (through 4 C (line (a ∷ b ∷ c ∷ d ∷ [])))
 unfolding tab
-forward-row a b c d = rings (a ∷ b ∷ c ∷ d ∷ []) (expressions forwardRow) (throughEs C) refl
+forward-row a b c d = rings (a ∷ b ∷ c ∷ d ∷ []) (expressions forwardRow) (throughExpressions C) refl
 
 pub hadamard-row : (a b c d : ℤ) → ideals (a ∷ b ∷ c ∷ d ∷ []) hadamardRow ≡ tab 4 (through 4 H4 (line (a ∷ b ∷ c ∷ d ∷ [])))
 unfolding tab
-hadamard-row a b c d = rings (a ∷ b ∷ c ∷ d ∷ []) (expressions hadamardRow) (throughEs H4) refl
+hadamard-row a b c d = rings (a ∷ b ∷ c ∷ d ∷ []) (expressions hadamardRow) (throughExpressions H4) refl
 
 -- the entry of H2 W H2 in a row and a column
-abbrev squareE : ℕ → ℕ → Expression
-squareE i j = sumE 2 (λ k. con (H2 i k) ⊗ sumE 2 (λ l. var (2 * k + l) ⊗ con (H2 l j)))
+abbrev squareExpression : ℕ → ℕ → Expression
+squareExpression i j = sumExpression 2 (λ k. con (H2 i k) ⊗ sumExpression 2 (λ l. var (2 * k + l) ⊗ con (H2 l j)))
 
 pub hadamard-square : (w : List ℤ) → ideals w hadamardSquare ≡ hadamard 2 H2 w
 unfolding hadamard tab
-hadamard-square w = rings w (expressions hadamardSquare) (squareE 0 0 ∷ squareE 0 1 ∷ squareE 1 0 ∷ squareE 1 1 ∷ []) refl
+hadamard-square w = rings w (expressions hadamardSquare) (squareExpression 0 0 ∷ squareExpression 0 1 ∷ squareExpression 1 0 ∷ squareExpression 1 1 ∷ []) refl
 
 pub inverse-row : (a b c d : ℤ) → ideals (a ∷ b ∷ c ∷ d ∷ []) inverseRow ≡ tab 4 (back (line (a ∷ b ∷ c ∷ d ∷ [])))
 unfolding tab
@@ -123,6 +124,14 @@ sixteen = 0 ∷ 1 ∷ 2 ∷ 3 ∷ 4 ∷ 5 ∷ 6 ∷ 7 ∷ 8 ∷ 9 ∷ 10 ∷ 11 
 pub gathered : (l : List ℤ) → length l ≡ 16 → gather sixteen l ≡ l
 unfolding tab
 gathered l e = tab-of 16 (line l) l (pos 0) e (λ k h. refl)
+
+pub rows-each : (B : ℕ) (m : Block) → Each B (flat m) → Each B (row (m .a)) × Each B (row (m .b)) × Each B (row (m .c)) × Each B (row (m .d))
+rows-each B m h = (
+  each-gather B (0 ∷ 1 ∷ 2 ∷ 3 ∷ []) (flat m) h,
+  each-gather B (4 ∷ 5 ∷ 6 ∷ 7 ∷ []) (flat m) h,
+  each-gather B (8 ∷ 9 ∷ 10 ∷ 11 ∷ []) (flat m) h,
+  each-gather B (12 ∷ 13 ∷ 14 ∷ 15 ∷ []) (flat m) h,
+)
 
 -- v is row i of m
 abbrev Row : Block → ℕ → Quad → Type 0

@@ -4,13 +4,15 @@
 --     forward-around, hadamard-around    the definitions as M X M-transposed
 --     forward-sides, hadamard-sides      and as each row through M, then each column
 --     rounded-inverse                    the inverse's last step
+--     length-forward, length-hadamard, length-inverse
 -- Assumes nothing.
 use mathlib.Core.Path.{_≡_, refl, sym, ap, subst, _∙_}
 use mathlib.Core.List.{List}
-use Prim.Native.Nat.{ℕ, _<_}
+use Prim.Native.Nat.{ℕ, _*_, _<_}
 use lib.IntN.{ℤ, pos}
+use lib.ListN.{length}
 use Rattle.lists.specs.Tab.{tab}
-use Rattle.lists.proofs.Tab.{getD-tab, tab-same}
+use Rattle.lists.proofs.Tab.{length-tab, getD-tab, tab-same}
 use Rattle.whole.specs.Bounds.{Each}
 use Rattle.whole.proofs.Sums.{same-below}
 use Rattle.transform.specs.Block.{line, turn, byRow, through}
@@ -70,3 +72,17 @@ unfolding inverse
 rounded-inverse d {r} {l} e g =
     e
     ∙ tab-same 16 _ _ (λ k h. ap rounded (ap (λ (z : List ℤ). line z k) g ∙ getD-tab 16 _ k (pos 0) h))
+
+-- ---- lengths
+
+pub length-forward : (x : List ℤ) → length (forward x) ≡ 16
+unfolding forward
+length-forward x = length-tab 16 _
+
+pub length-hadamard : (n : ℕ) (H : Matrix) (w : List ℤ) → length (hadamard n H w) ≡ n * n
+unfolding hadamard
+length-hadamard n H w = length-tab (n * n) _
+
+pub length-inverse : (d : List ℤ) → length (inverse d) ≡ 16
+unfolding inverse
+length-inverse d = length-tab 16 _

@@ -5,14 +5,14 @@
 --     Local, Grows                                         a function of a line looks at n numbers only; how large its results can be
 --     turn-each, byRow-each, both-sides                    rows and columns exchanged, and f of each row: twice both is f of each row and column
 -- Assumes nothing.
-use mathlib.Core.Path.{_≡_, refl, sym, ap, subst, _∙_}
+use mathlib.Core.Path.{_≡_, ap, _∙_}
 use mathlib.Core.List.{List}
 use Prim.Native.Nat.{ℕ, zero, suc, _+_, _*_, _/_, _%_, _<_}
 use native.Mathlib.Nat.{not-suc-le-zero, mod-lt, div-lt-iff-lt-mul, div-add-mod}
 use native.Mathlib.Omega.{arith}
 use lib.IntN.{ℤ, pos}
 use lib.ListN.{length, getD}
-use Rattle.lists.specs.Tab.{tab, grid}
+use Rattle.lists.specs.Tab.{grid}
 use Rattle.lists.proofs.Tab.{length-tab, getD-tab, getD-grid, tab-same, tab-of}
 use Rattle.whole.specs.Bounds.{Within, Each}
 use Rattle.whole.proofs.Steps.{each-at}

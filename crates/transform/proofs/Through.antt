@@ -3,13 +3,12 @@
 --     around-within                                    the bound of M X M-transposed, by the row's and the column's sums
 --     sides, sides-symmetric                           M X M-transposed, and H X H of a symmetric H: each row through it, then each column
 -- Assumes nothing.
-use mathlib.Core.Path.{_≡_, refl, sym, ap, subst, _∙_}
-use mathlib.Core.Bool.{Bool}
+use mathlib.Core.Path.{_≡_, ap, subst}
 use Prim.Native.Nat.{ℕ, zero, suc, _+_, _*_, _<_, _≤_, zero-le}
 use native.Mathlib.Nat.{mul-le-mul, le-refl}
 use native.Mathlib.Omega.{arith}
 use lib.Dec.{T, leb, leb→le}
-use lib.IntN.{ℤ, pos, natAbs, _+ℤ_, _*ℤ_, *ℤ-comm}
+use lib.IntN.{ℤ, natAbs, _*ℤ_, *ℤ-comm}
 use Rattle.lists.specs.Every.{every}
 use Rattle.lists.proofs.Every.{every-at}
 use Rattle.whole.specs.Bounds.{Within}

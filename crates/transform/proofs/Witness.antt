@@ -3,19 +3,16 @@
 --     length-comes-first     too many numbers, all out of range: LENGTH, not RESIDUAL
 -- Assumes nothing.
 use mathlib.Core.Path.{_≡_, refl}
-use mathlib.Core.Bool.{false}
 use mathlib.Core.List.{List, [], _∷_}
 use lib.IntN.{ℤ, pos, negsuc, _+ℤ_, _-ℤ_}
 use lib.ListN.{getD, replicate}
 use lib.Signed.{quotZ}
 use Rattle.lists.specs.Chain.{chain, stop}
-use Rattle.lists.specs.First.{first}
 use Rattle.lists.specs.Tab.{tab}
-use Rattle.whole.specs.Range.{firstOutside, inside}
 use Rattle.refusal.specs.declared.Refusal.the-variants.{Length}
 use Rattle.transform.specs.Entry.{tests}
 use Rattle.transform.specs.Inverse.{back, rounded, inverse}
-use Rattle.transform.specs.Matrix.{Line, Matrix, eachRow, eachColumn, raster, entries}
+use Rattle.transform.specs.Matrix.{Line, eachRow, eachColumn, raster, entries}
 
 abbrev pub one : List ℤ
 one =

@@ -1,7 +1,6 @@
 -- "Weights for carrying coefficients back: a 25, b 4, c 10; C-transposed times the weighted Y times C is 400X."
 -- (01, "Transform, quantizer, rescaling".) Assumes nothing.
 use mathlib.Core.List.{List, map}
-use Prim.Native.Nat.{ℕ}
 use lib.IntN.{ℤ, pos, _*ℤ_}
 use lib.ListN.{getD}
 use Rattle.lists.specs.Tab.{tab}

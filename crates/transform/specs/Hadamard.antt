@@ -1,4 +1,5 @@
--- "T=HWH is not halved" (01, "Transform, quantizer, rescaling": luma DC, chroma DC). Assumes nothing.
+-- "T=HWH is not halved", "g=HZH" (01, "Transform, quantizer, rescaling": luma DC, chroma DC; ITU-T H.264, 8.5.10 and 8.5.11).
+-- Assumes nothing.
 use mathlib.Core.List.{List, [], _∷_}
 use Prim.Native.Nat.{ℕ}
 use lib.IntN.{ℤ, pos, negsuc}

@@ -1,6 +1,5 @@
 -- "Inverse, each row first, then each column" (01, "Transform, quantizer, rescaling"; ITU-T H.264, 8.5.12.2). Assumes nothing.
 use mathlib.Core.List.{List, [], _∷_}
-use Prim.Native.Nat.{ℕ}
 use lib.IntN.{ℤ, pos, _+ℤ_, _-ℤ_}
 use lib.ListN.{getD}
 use lib.Signed.{shrZ}

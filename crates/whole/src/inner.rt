@@ -55,9 +55,9 @@ pub fn copy(from: &[i32], to: &mut [i32])
     requires { ⌜ length (now from) ≡ length (now to) ⌝ }
     ensures { λ r. ⌜ now (to .exit) ≡ now (from .entry) ⌝ }
 {
-    let mut i = 0;
-    while i < from.len() {
-        to[i] = from[i];
-        i += 1;
+    let mut place = 0;
+    while place < from.len() {
+        to[place] = from[place];
+        place += 1;
     }
 }

@@ -1,7 +1,7 @@
 -- `transform::forward` meets its contract: each verdict by its law, and the coefficients by `forward_block` between two copies.
 -- Assumes nothing.
 use borrow.Author.Needs.{needs}
-use mathlib.Core.Path.{_≡_, sym, ap, _∙_}
+use mathlib.Core.Path.{sym, ap, _∙_}
 use Prim.Native.Nat.{ℕ, _≤_}
 use native.Mathlib.Omega.{arith}
 use Rattle.lists.specs.Chain.{Verdict, stop, written}

@@ -1,10 +1,8 @@
 -- `transform::inner::hadamard_rows` meets its contract: four rows, each by `hadamard_row`.
 -- Assumes nothing.
-use mathlib.Core.List.{[], _∷_}
-use Rattle.whole.proofs.Lists.{each-gather}
-use Rattle.transform.specs.Block.{flat, through}
+use Rattle.transform.specs.Block.{through, wide}
 use Rattle.transform.specs.Hadamard.{H4}
-use Rattle.transform.proofs.Rows.{rows-flat}
+use Rattle.transform.proofs.Rows.{rows-each, rows-flat}
 use Rattle.transform.proofs.Through.{through-local}
 use Rattle.transform.proofs.inner.hadamard_rows.Statement.{statement}
 use Rattle.transform.proofs.inner.hadamard_rows.Tie as tie
@@ -12,22 +10,22 @@ use Rattle.transform.proofs.inner.hadamard_rows.Tie as tie
 hadamard-row-requires : tie.Need-hadamard-row-requires
 hadamard-row-requires c κs =
     let s = c .before .before .before .before in
-    each-gather 100000000 (0 ∷ 1 ∷ 2 ∷ 3 ∷ []) (flat (s .args .m)) (s .pre)
+    rows-each wide (s .args .m) (s .pre) .0
 
 hadamard-row-requires-2 : tie.Need-hadamard-row-requires-2
 hadamard-row-requires-2 c κs =
     let s = c .before .before .before .before .before in
-    each-gather 100000000 (4 ∷ 5 ∷ 6 ∷ 7 ∷ []) (flat (s .args .m)) (s .pre)
+    rows-each wide (s .args .m) (s .pre) .1
 
 hadamard-row-requires-3 : tie.Need-hadamard-row-requires-3
 hadamard-row-requires-3 c κs =
     let s = c .before .before .before .before .before .before in
-    each-gather 100000000 (8 ∷ 9 ∷ 10 ∷ 11 ∷ []) (flat (s .args .m)) (s .pre)
+    rows-each wide (s .args .m) (s .pre) .2
 
 hadamard-row-requires-4 : tie.Need-hadamard-row-requires-4
 hadamard-row-requires-4 c κs =
     let s = c .before .before .before .before .before .before .before in
-    each-gather 100000000 (12 ∷ 13 ∷ 14 ∷ 15 ∷ []) (flat (s .args .m)) (s .pre)
+    rows-each wide (s .args .m) (s .pre) .3
 
 returns : tie.Need-returns
 returns c =

@@ -1,32 +1,30 @@
 -- `transform::inner::inverse_rows` meets its contract: four rows, each by `inverse_row`.
 -- Assumes nothing.
-use mathlib.Core.List.{[], _∷_}
-use Rattle.whole.proofs.Lists.{each-gather}
-use Rattle.transform.specs.Block.{flat}
+use Rattle.transform.specs.Block.{wide}
 use Rattle.transform.specs.Inverse.{back}
-use Rattle.transform.proofs.Rows.{back-local, rows-flat}
+use Rattle.transform.proofs.Rows.{back-local, rows-each, rows-flat}
 use Rattle.transform.proofs.inner.inverse_rows.Statement.{statement}
 use Rattle.transform.proofs.inner.inverse_rows.Tie as tie
 
 inverse-row-requires : tie.Need-inverse-row-requires
 inverse-row-requires c κs =
     let s = c .before .before .before .before in
-    each-gather 100000000 (0 ∷ 1 ∷ 2 ∷ 3 ∷ []) (flat (s .args .m)) (s .pre)
+    rows-each wide (s .args .m) (s .pre) .0
 
 inverse-row-requires-2 : tie.Need-inverse-row-requires-2
 inverse-row-requires-2 c κs =
     let s = c .before .before .before .before .before in
-    each-gather 100000000 (4 ∷ 5 ∷ 6 ∷ 7 ∷ []) (flat (s .args .m)) (s .pre)
+    rows-each wide (s .args .m) (s .pre) .1
 
 inverse-row-requires-3 : tie.Need-inverse-row-requires-3
 inverse-row-requires-3 c κs =
     let s = c .before .before .before .before .before .before in
-    each-gather 100000000 (8 ∷ 9 ∷ 10 ∷ 11 ∷ []) (flat (s .args .m)) (s .pre)
+    rows-each wide (s .args .m) (s .pre) .2
 
 inverse-row-requires-4 : tie.Need-inverse-row-requires-4
 inverse-row-requires-4 c κs =
     let s = c .before .before .before .before .before .before .before in
-    each-gather 100000000 (12 ∷ 13 ∷ 14 ∷ 15 ∷ []) (flat (s .args .m)) (s .pre)
+    rows-each wide (s .args .m) (s .pre) .3
 
 returns : tie.Need-returns
 returns c =

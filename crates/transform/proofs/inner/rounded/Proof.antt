@@ -1,15 +1,12 @@
 -- `transform::inner::rounded` meets its contract: a loop that stores each number, rounded.
 -- Assumes nothing.
 use borrow.Author.Needs.{needs}
-use mathlib.Core.Path.{_≡_, ap, _∙_}
 use mathlib.Core.List.{List, [], _∷_}
 use Prim.Native.Nat.{ℕ, _-_}
-use native.Mathlib.Omega.{arith}
 use lib.IntN.{ℤ, pos}
-use lib.ListN.{getD}
 use mir.Syntax.{w32}
 use Rattle.lists.proofs.Tab.{Filling, filling-none, filling-more, filling-done}
-use Rattle.whole.specs.Bounds.{Within, Each}
+use Rattle.whole.specs.Bounds.{Each}
 use Rattle.whole.proofs.Steps.{Code, inp, num, add, shr, safe, exact, each-at}
 use Rattle.transform.specs.Block.{line, wide}
 use Rattle.transform.specs.Inverse.{rounded}

@@ -12,10 +12,10 @@ use Rattle.whole.proofs.inner.copy.Statement.{statement}
 use Rattle.whole.proofs.inner.copy.Tie as tie
 
 abbrev Inv-loop : tie.InvT-loop
-Inv-loop from to₀ i₀ to i = Filling (length from) (λ k. getD from k (pos 0)) to i
+Inv-loop from to₀ place₀ to place = Filling (length from) (λ k. getD from k (pos 0)) to place
 
 abbrev μ-loop : tie.MeasureT-loop
-μ-loop from to₀ i₀ to i = length from - i
+μ-loop from to₀ place₀ to place = length from - place
 
 loop-holds : tie.Need-loop-holds Inv-loop μ-loop
 loop-holds c = filling-none _ _ (search needs)
@@ -32,8 +32,8 @@ mul-t8 c = search needs
 slice-set-from-to : tie.Need-slice-set-from-to Inv-loop μ-loop
 slice-set-from-to c = search needs
 
-add-i : tie.Need-add-i Inv-loop μ-loop
-add-i c = search needs
+add-place : tie.Need-add-place Inv-loop μ-loop
+add-place c = search needs
 
 loop-less : tie.Need-loop-less Inv-loop μ-loop
 loop-less c = search needs
@@ -60,7 +60,7 @@ copy-spec =
     shared-slice-copy-out-to
     mul-t8
     slice-set-from-to
-    add-i
+    add-place
     loop-less
     loop-again
     same-length

@@ -1,0 +1,29 @@
+-- The loop that adds f k in turn k, each at most b, so that the sum is known to fit.
+--     Totalling: totalling-none, totalling-more, totalling-done
+-- Assumes nothing.
+use mathlib.Core.Path.{_≡_, refl, _∙_}
+use Prim.Native.Nat.{ℕ, _+_, _*_, _<_, _≤_, zero-le}
+use native.Mathlib.Numerals.{add-one}
+use native.Mathlib.Omega.{arith}
+use Rattle.lists.specs.Total.{total}
+
+pub record Totalling (n : ℕ) (f : ℕ → ℕ) (b sum k : ℕ) : Type 0 where
+  pub below : k ≤ n
+  pub is : sum ≡ total k f
+  pub low : sum ≤ b * k
+
+module _ (n : ℕ) (f : ℕ → ℕ) (b : ℕ) where
+  pub totalling-none : Totalling n f b 0 0
+  unfolding total
+  totalling-none = record { below = zero-le; is = refl; low = zero-le }
+
+  pub totalling-more : {sum k v : ℕ} → Totalling n f b sum k → k < n → v ≡ f k → v ≤ b → Totalling n f b (sum + v) (k + 1)
+  unfolding total
+  totalling-more {sum} {k} {v} h l e u = record {
+    below = omega arith;
+    is = rw (add-one, h .is, e);
+    low = omega (arith, h .low);
+  }
+
+  pub totalling-done : {sum k : ℕ} → Totalling n f b sum k → n ≤ k → sum ≡ total n f
+  totalling-done {sum} {k} h l = let q : k ≡ n = omega (arith, h .below) in h .is ∙ rw q

@@ -1,0 +1,37 @@
+-- The contracts of `picture` determine what its functions answer, and the plane that `store_block` leaves.
+-- Assumes nothing.
+use mathlib.Core.Path.{refl, sym, _∙_}
+use mathlib.Core.List.{List}
+use Prim.Native.Nat.{ℕ}
+use denote.Ref.{now}
+use Rattle.unique.specs.Unique.{Unique}
+use Rattle.picture.proofs.inner.column.Kinds as column
+use Rattle.picture.proofs.inner.column.Reads as column-reads
+use Rattle.picture.proofs.inner.row.Kinds as row
+use Rattle.picture.proofs.inner.row.Reads as row-reads
+use Rattle.picture.proofs.inner.flags.Kinds as flags
+use Rattle.picture.proofs.inner.flags.Reads as flags-reads
+use Rattle.picture.proofs.inner.gather.Kinds as gather
+use Rattle.picture.proofs.inner.gather.Reads as gather-reads
+use Rattle.picture.proofs.inner.read_block.Kinds as read-block
+use Rattle.picture.proofs.inner.read_block.Reads as read-block-reads
+use Rattle.picture.proofs.inner.store_block.Kinds as store-block
+use Rattle.picture.proofs.inner.store_block.Reads as store-block-reads
+
+pub column-unique : Unique 0 column.ps column.r column-reads.Learnt (Unit {0}) (λ κs e. tt)
+column-unique κs a x y e f p q = (p ∙ sym q, refl)
+
+pub row-unique : Unique 0 row.ps row.r row-reads.Learnt (Unit {0}) (λ κs e. tt)
+row-unique κs a x y e f p q = (p ∙ sym q, refl)
+
+pub flags-unique : Unique 0 flags.ps flags.r flags-reads.Learnt (Unit {0}) (λ κs e. tt)
+flags-unique κs a x y e f p q = (p ∙ sym q, refl)
+
+pub gather-unique : Unique 1 gather.ps gather.r gather-reads.Learnt (Unit {0}) (λ κs e. tt)
+gather-unique κs a x y e f p q = (p ∙ sym q, refl)
+
+pub read-block-unique : Unique 1 read-block.ps read-block.r read-block-reads.Learnt (Unit {0}) (λ κs e. tt)
+read-block-unique κs a x y e f p q = (p ∙ sym q, refl)
+
+pub store-block-unique : Unique 1 store-block.ps store-block.r store-block-reads.Learnt (List ℕ) (λ κs e. now (e .0))
+store-block-unique κs a x y e f p q = (refl, p ∙ sym q)

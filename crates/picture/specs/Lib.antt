@@ -1,0 +1,4 @@
+pub mod Order
+pub mod Plane
+pub mod Presence
+pub mod Reach

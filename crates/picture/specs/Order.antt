@@ -1,0 +1,58 @@
+-- The order in which macroblocks and blocks are coded, and where they stand (01, "Plane and record file"). Assumes nothing.
+use mathlib.Core.Path.{_≡_}
+use mathlib.Core.List.{List, [], _∷_}
+use Prim.Native.Nat.{ℕ, _+_, _*_, _/_, _%_, _<_, _≤_}
+use lib.Dec.{eqb}
+use lib.ListN.{getD}
+use Rattle.lists.specs.First.{first}
+use Rattle.picture.specs.declared.Layout.{Layout}
+
+-- "blocks 0-15 by rows: 0 1 4 5 / 2 3 6 7 / 8 9 12 13 / 10 11 14 15"
+unfoldable pub blockTable : List ℕ
+blockTable =
+    0 ∷ 1 ∷ 4 ∷ 5
+    ∷ 2 ∷ 3 ∷ 6 ∷ 7
+    ∷ 8 ∷ 9 ∷ 12 ∷ 13
+    ∷ 10 ∷ 11 ∷ 14 ∷ 15 ∷ []
+
+-- the block in column u and row v of the table
+unfoldable pub blockIn : (u v : ℕ) → ℕ
+blockIn u v = getD blockTable (4 * v + u) 0
+
+-- and the other way: where block b stands in the table, its column and its row
+unfoldable pub tablePlace : ℕ → ℕ
+tablePlace b = first 16 (λ place. eqb (getD blockTable place 0) b)
+
+unfoldable pub columnIn : ℕ → ℕ
+columnIn b = tablePlace b % 4
+
+unfoldable pub rowIn : ℕ → ℕ
+rowIn b = tablePlace b / 4
+
+-- column and row of the first sample of block b of macroblock m: macroblocks of 16x16 are "numbered in raster order from 0"
+unfoldable pub blockColumn : Layout → (m b : ℕ) → ℕ
+blockColumn l m b = 16 * (m % l .width) + 4 * columnIn b
+
+unfoldable pub blockRow : Layout → (m b : ℕ) → ℕ
+blockRow l m b = 16 * (m / l .width) + 4 * rowIn b
+
+-- "Macroblocks go in raster order": the number of block b of macroblock m in the coding order
+abbrev pub orderOf : (m b : ℕ) → ℕ
+orderOf m b = 16 * m + b
+
+-- and the number of the block that holds the sample in column x of row y
+unfoldable pub orderAt : Layout → (x y : ℕ) → ℕ
+orderAt l x y = orderOf (y / 16 * l .width + x / 16) (blockIn (x / 4 % 4) (y / 4 % 4))
+
+-- "Width and height are 1 to 128 macroblocks"; the picture is one slice
+pub record Sound (l : Layout) : Type 0 where
+  pub some : 0 < l .width
+  pub wide : l .width ≤ 128
+  pub high : l .height ≤ 128
+  pub whole : l .rows ≡ l .height
+
+-- block b of macroblock m is one of the picture's
+pub record Among (l : Layout) (m b : ℕ) : Type 0 where
+  pub sound : Sound l
+  pub macroblock : m < l .width * l .height
+  pub block : b < 16

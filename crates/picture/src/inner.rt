@@ -1,0 +1,206 @@
+// What the crates above ask of a picture: where a block stands, which of its neighbours are present, and its samples.
+ghost use mathlib.Core.Bool.{cond};
+ghost use mathlib.Core.Path.{_≡_};
+ghost use Prim.Native.Nat.{_+_, _*_, _-_, _/_, _%_, _<_, _≤_};
+ghost use lib.ListN.{length, getD};
+ghost use Rattle.lists.specs.Tab.{tab};
+ghost use Rattle.picture.specs.Order.{Among, columnIn, rowIn, blockColumn, blockRow};
+ghost use Rattle.picture.specs.Plane.{stride, samplesOf, blockOf, withBlock, gathered};
+ghost use Rattle.picture.specs.Presence.{presentAt, flagsOf};
+ghost use Rattle.picture.specs.Reach.{Behind};
+use crate::Layout;
+
+// The blocks whose upper right comes before them where it lies in the picture: all but 3, 7, 11, 13, 15.
+const EARLY: [u8; 16] = [1, 1, 1, 0, 1, 1, 1, 0, 1, 1, 1, 0, 1, 0, 1, 0];
+
+// The column of block b in its macroblock, in blocks.
+fn column_inside(b: usize) -> usize
+    requires { ⌜ b < 16 ⌝ }
+    ensures { λ r. ⌜ (r ≡ columnIn b) × (r < 4) ⌝ }
+{
+    b % 2 + 2 * (b / 4 % 2)
+}
+
+// Its row there.
+fn row_inside(b: usize) -> usize
+    requires { ⌜ b < 16 ⌝ }
+    ensures { λ r. ⌜ (r ≡ rowIn b) × (r < 4) ⌝ }
+{
+    b / 2 % 2 + 2 * (b / 8)
+}
+
+// The column of the first sample of block b of macroblock m.
+pub fn column(layout: Layout, m: usize, b: usize) -> usize
+    requires { ⌜ Among layout m b ⌝ }
+    ensures { λ r. ⌜ r ≡ blockColumn layout m b ⌝ }
+{
+    16 * (m % layout.width) + 4 * column_inside(b)
+}
+
+// The row of that sample.
+pub fn row(layout: Layout, m: usize, b: usize) -> usize
+    requires { ⌜ Among layout m b ⌝ }
+    ensures { λ r. ⌜ r ≡ blockRow layout m b ⌝ }
+{
+    16 * (m / layout.width) + 4 * row_inside(b)
+}
+
+// The same row inside its slice: nothing above a slice is present.
+fn row_in_slice(layout: Layout, m: usize, b: usize) -> usize
+    requires { ⌜ Among layout m b ⌝ }
+    ensures { λ r. ⌜ r ≡ 16 * (m / layout .width % layout .rows) + 4 * rowIn b ⌝ }
+{
+    16 * (m / layout.width % layout.rows) + 4 * row_inside(b)
+}
+
+// Whether A-D are present.
+fn has_above(layout: Layout, m: usize, b: usize) -> bool
+    requires { ⌜ Among layout m b ⌝ }
+    ensures { λ r. ⌜ r ≡ presentAt 4 layout m b 1 ⌝ }
+{
+    0 < row_in_slice(layout, m, b)
+}
+
+// Whether I-L are present.
+fn has_left(layout: Layout, m: usize, b: usize) -> bool
+    requires { ⌜ Among layout m b ⌝ }
+    ensures { λ r. ⌜ r ≡ presentAt 4 layout m b 9 ⌝ }
+{
+    0 < column(layout, m, b)
+}
+
+// Whether M is present.
+fn has_corner(layout: Layout, m: usize, b: usize) -> bool
+    requires { ⌜ Among layout m b ⌝ }
+    ensures { λ r. ⌜ r ≡ presentAt 4 layout m b 0 ⌝ }
+{
+    if has_above(layout, m, b) {
+        has_left(layout, m, b)
+    } else {
+        false
+    }
+}
+
+// Whether E-H are present.
+fn has_upper_right(layout: Layout, m: usize, b: usize) -> bool
+    requires { ⌜ Among layout m b ⌝ }
+    ensures { λ r. ⌜ r ≡ presentAt 4 layout m b 5 ⌝ }
+{
+    if has_above(layout, m, b) {
+        if column(layout, m, b) + 8 <= 16 * layout.width {
+            EARLY[b] == 1
+        } else {
+            false
+        }
+    } else {
+        false
+    }
+}
+
+fn flag(present: bool, value: u8) -> u8
+    ensures { λ r. ⌜ (r ≡ cond present value 0) × (r ≤ value) ⌝ }
+{
+    if present { value } else { 0 }
+}
+
+// The flags byte of a block: bit 0 A-D, bit 1 I-L, bit 2 M, bit 3 E-H.
+pub fn flags(layout: Layout, m: usize, b: usize) -> u8
+    requires { ⌜ Among layout m b ⌝ }
+    ensures { λ r. ⌜ r ≡ flagsOf layout m b ⌝ }
+{
+    flag(has_above(layout, m, b), 1)
+        + flag(has_left(layout, m, b), 2)
+        + flag(has_corner(layout, m, b), 4)
+        + flag(has_upper_right(layout, m, b), 8)
+}
+
+// The place of the block's first sample in the plane.
+fn first_place(layout: Layout, m: usize, b: usize) -> usize
+    requires { ⌜ Among layout m b ⌝ }
+    ensures { λ r. ⌜ r ≡ blockRow layout m b * stride layout + blockColumn layout m b ⌝ }
+{
+    row(layout, m, b) * (16 * layout.width) + column(layout, m, b)
+}
+
+// The sample that stands `back` before a place, or 0 where it is missing.
+fn sample(plane: &[u8], at: usize, back: usize, present: bool) -> u8
+    requires { ⌜ Behind present 1 0 at back (length (now plane)) ⌝ }
+    ensures { λ r. ⌜ r ≡ cond present (getD (now (plane .entry)) (at - back) 0) 0 ⌝ }
+{
+    if present { plane[at - back] } else { 0 }
+}
+
+// Four samples, the first `back` before a place, and each `step` behind the one before.
+fn four(plane: &[u8], at: usize, back: usize, step: usize, present: bool) -> [u8; 4]
+    requires { ⌜ Behind present 4 step at back (length (now plane)) ⌝ }
+    ensures { λ r. ⌜ r ≡ tab 4 (λ k. cond present (getD (now (plane .entry)) (at - back + k * step) 0) 0) ⌝ }
+{
+    if present {
+        let mut out = [0u8; 4];
+        for k in 0..4 {
+            out[k] = plane[at - back + k * step];
+        }
+        out
+    } else {
+        [0u8; 4]
+    }
+}
+
+// The neighbours of a block, in the order M, A to H, I to L; 0 stands for one that is missing.
+pub fn gather(plane: &[u8], layout: Layout, m: usize, b: usize) -> [u8; 13]
+    requires { ⌜ Among layout m b ⌝ }
+    requires { ⌜ length (now plane) ≡ samplesOf layout ⌝ }
+    ensures { λ r. ⌜ r ≡ gathered 4 layout m b (now (plane .entry)) ⌝ }
+{
+    let stride = 16 * layout.width;
+    let at = first_place(layout, m, b);
+    let corner = sample(plane, at, stride + 1, has_corner(layout, m, b));
+    let above = four(plane, at, stride, 1, has_above(layout, m, b));
+    let right = four(plane, at, stride - 4, 1, has_upper_right(layout, m, b));
+    let left = four(plane, at, 1, stride, has_left(layout, m, b));
+    [
+        corner,
+        above[0],
+        above[1],
+        above[2],
+        above[3],
+        right[0],
+        right[1],
+        right[2],
+        right[3],
+        left[0],
+        left[1],
+        left[2],
+        left[3],
+    ]
+}
+
+// The sixteen samples of a block, in raster order.
+pub fn read_block(plane: &[u8], layout: Layout, m: usize, b: usize) -> [u8; 16]
+    requires { ⌜ Among layout m b ⌝ }
+    requires { ⌜ length (now plane) ≡ samplesOf layout ⌝ }
+    ensures { λ r. ⌜ r ≡ blockOf layout m b (now (plane .entry)) ⌝ }
+{
+    let stride = 16 * layout.width;
+    let at = first_place(layout, m, b);
+    let mut out = [0u8; 16];
+    for y in 0..4 {
+        for x in 0..4 {
+            out[4 * y + x] = plane[at + y * stride + x];
+        }
+    }
+    out
+}
+
+// The plane with the sixteen samples of a block in their places.
+pub fn store_block(plane: &mut [u8], layout: Layout, m: usize, b: usize, block: [u8; 16])
+    requires { ⌜ Among layout m b ⌝ }
+    requires { ⌜ length (now plane) ≡ samplesOf layout ⌝ }
+    ensures { λ _. ⌜ now (plane .exit) ≡ withBlock layout m b block (now (plane .entry)) ⌝ }
+{
+    let stride = 16 * layout.width;
+    let at = first_place(layout, m, b);
+    for k in 0..16 {
+        plane[at + k / 4 * stride + k % 4] = block[k];
+    }
+}

@@ -1,0 +1,9 @@
+pub mod Area
+pub mod Least
+pub mod Masked
+pub mod Measured
+pub mod Missing
+pub mod Outcome
+pub mod Places
+pub mod Unique
+pub mod Witness

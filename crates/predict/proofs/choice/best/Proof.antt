@@ -1,0 +1,27 @@
+-- `predict::choice::best` meets its contract: a loop that looks at each mode. Assumes nothing.
+use Prim.Native.Nat.{_-_}
+use native.Mathlib.Omega.{arith}
+use borrow.Author.Needs.{needs}
+use Rattle.predict.specs.Code.{areaCost}
+use Rattle.predict.proofs.Area.{Looking, looking-none, looking-more, looking-done}
+use Rattle.predict.proofs.choice.best.Statement.{statement}
+use Rattle.predict.proofs.choice.best.Tie as tie
+
+abbrev Inv-loop : tie.InvT-loop
+Inv-loop area flags samples best₀ mode₀ best mode = Looking 9 (areaCost area flags samples) best mode
+
+abbrev μ-loop : tie.MeasureT-loop
+μ-loop area flags samples best₀ mode₀ best mode = 9 - mode
+
+pub best-spec : {M : Type 1} → statement M
+best-spec =
+    tie.close
+    (tie.spec
+    Inv-loop
+    μ-loop
+    (λ c. looking-none _ _)
+    (λ c κs. omega arith)
+    (λ c. search needs)
+    (λ c. search needs)
+    (λ c. looking-more _ _ (c .before .before .loop .inv) (omega arith) (c .consider .ensures))
+    (λ c. looking-done _ _ (c .before .loop .inv) (omega arith)))

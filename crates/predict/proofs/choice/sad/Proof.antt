@@ -1,0 +1,36 @@
+-- `predict::choice::sad` meets its contract: a loop that adds differences of at most 255. Assumes nothing.
+use Prim.Native.Nat.{ℕ, _-_}
+use native.Mathlib.Omega.{arith}
+use borrow.Author.Needs.{needs}
+use lib.ListN.{getD}
+use Rattle.lists.specs.Total.{distance}
+use Rattle.lists.proofs.Total.{Totalling, totalling-none, totalling-more, totalling-done}
+use Rattle.predict.specs.Choice.{sad}
+use Rattle.predict.proofs.choice.sad.Statement.{statement}
+use Rattle.predict.proofs.choice.sad.Tie as tie
+
+abbrev Inv-loop : tie.InvT-loop
+Inv-loop a b sum₀ k₀ sum k = Totalling 16 (λ (j : ℕ). distance (getD a j 0) (getD b j 0)) 255 sum k
+
+abbrev μ-loop : tie.MeasureT-loop
+μ-loop a b sum₀ k₀ sum k = 16 - k
+
+returns : tie.Need-returns Inv-loop μ-loop
+unfolding sad
+returns c = (totalling-done _ _ _ (c .before .loop .inv) (omega arith), omega arith)
+
+pub sad-spec : {M : Type 1} → statement M
+sad-spec =
+    tie.close
+    (tie.spec
+    Inv-loop
+    μ-loop
+    (λ c. totalling-none _ _ _)
+    (λ c. search needs)
+    (λ c. search needs)
+    (λ c κs. search needs)
+    (λ c. search needs)
+    (λ c. search needs)
+    (λ c. search needs)
+    (λ c. totalling-more _ _ _ (c .before .before .before .before .loop .inv) (omega arith) (c .difference .ensures .0) (c .difference .ensures .1))
+    returns)

@@ -1,0 +1,17 @@
+-- `predict::rules::horizontal` meets its contract. Assumes nothing.
+use borrow.Author.Needs.{needs}
+use Rattle.predict.specs.Rules.{horizontal}
+use Rattle.predict.proofs.rules.horizontal.Statement.{statement}
+use Rattle.predict.proofs.rules.horizontal.Tie as tie
+
+returns : tie.Need-returns
+unfolding horizontal
+returns c = search needs
+
+pub horizontal-spec : {M : Type 1} → statement M
+horizontal-spec =
+    tie.close
+    (tie.spec
+    (λ c. search needs)
+    (λ c. search needs)
+    returns)

@@ -1,0 +1,57 @@
+-- `predict::rules::horizontal_up` meets its contract, by z. Assumes nothing.
+use mathlib.Core.Path.{_≡_}
+use Prim.Native.Nat.{_+_, _*_, _/_, _%_}
+use native.Mathlib.Omega.{arith}
+use borrow.Author.Tests.{lt-ltb, le-ltb, eq-eqb, ne-eqb}
+use borrow.Author.Needs.{needs}
+use Rattle.predict.specs.Rules.{horizontalUp}
+use Rattle.predict.proofs.rules.horizontal_up.Statement.{statement}
+use Rattle.predict.proofs.rules.horizontal_up.Tie as tie
+
+returns : tie.Need-returns
+unfolding horizontalUp
+returns c =
+    let a = c .before .before .before .before .before .before .args in
+    simp (le-ltb 5 (a .x + 2 * a .y) (omega arith), eq-eqb (a .x + 2 * a .y) 5 (omega arith)) (c .avg3 .ensures)
+
+returns-2 : tie.Need-returns-2
+unfolding horizontalUp
+returns-2 c =
+    let a = c .before .before .before .before .before .args in
+    let z = a .x + 2 * a .y in
+    simp (le-ltb 5 (a .x + 2 * a .y) (omega arith), ne-eqb (a .x + 2 * a .y) 5 (λ e. omega arith), eq-eqb ((a .x + 2 * a .y) % 2) 0 (omega arith))
+    (c .two .ensures)
+
+returns-3 : tie.Need-returns-3
+unfolding horizontalUp
+returns-3 c =
+    let a = c .before .before .before .before .before .args in
+    let p : a .y + a .x / 2 + 1 + 2 ≡ a .y + a .x / 2 + 2 + 1 = omega arith in
+    simp (le-ltb 5 (a .x + 2 * a .y) (omega arith), ne-eqb (a .x + 2 * a .y) 5 (λ e. omega arith), ne-eqb ((a .x + 2 * a .y) % 2) 0 (λ e. omega arith))
+    (simp p at (c .three .ensures))
+
+returns-4 : tie.Need-returns-4
+unfolding horizontalUp
+returns-4 c =
+    let a = c .before .before .before .before .args in
+    simp (lt-ltb 5 (a .x + 2 * a .y) (omega arith))
+
+pub horizontal-up-spec : {M : Type 1} → statement M
+horizontal-up-spec =
+    tie.close
+    (tie.spec
+    (λ c. search needs)
+    (λ c. search needs)
+    (λ c. search needs)
+    (λ c. search needs)
+    (λ c. search needs)
+    (λ c. search needs)
+    (λ c. search needs)
+    (λ c κs. search needs)
+    (λ c κs. search needs)
+    (λ c κs. search needs)
+    (λ c. search needs)
+    returns
+    returns-2
+    returns-3
+    returns-4)

@@ -1,0 +1,65 @@
+// What the crates above call, without tests.
+ghost use mathlib.Core.Path.{_≡_};
+ghost use mathlib.Core.Bool.{true};
+ghost use lib.ListN.{length};
+ghost use Rattle.predict.specs.Samples.{mask};
+ghost use Rattle.predict.specs.Rules as paper;
+ghost use Rattle.predict.specs.Entry.{Picks};
+use crate::choice;
+use crate::fills;
+use crate::samples;
+
+// The chosen mode, its SAD and its sixteen samples.
+pub struct Choice {
+    pub mode: u8,
+    pub sad: u32,
+    pub prediction: [u8; 16],
+}
+
+// What the mode needs is present. A number above 8 is no mode.
+pub fn permitted(flags: u8, mode: u8) -> bool
+    ensures { λ r. ⌜ r ≡ paper.permitted flags mode ⌝ }
+{
+    match mode {
+        0 => samples::flag(flags, 0),
+        1 => samples::flag(flags, 1),
+        2 => true,
+        3 => samples::flag(flags, 0),
+        4 => samples::all(flags),
+        5 => samples::all(flags),
+        6 => samples::all(flags),
+        7 => samples::flag(flags, 0),
+        8 => samples::flag(flags, 1),
+        _ => false,
+    }
+}
+
+// The sixteen samples of a permitted mode.
+pub fn fill(neighbours: &[u8], flags: u8, mode: u8, out: &mut [u8])
+    requires { ⌜ (length (now neighbours) ≡ 13) × (paper.permitted flags mode ≡ true) × (length (now out) ≡ 16) ⌝ }
+    ensures { λ r. ⌜ now (out .exit) ≡ paper.samplesOf (paper.predicted (mask (now (neighbours .entry)) flags) mode) ⌝ }
+{
+    let rows = samples::resolve(neighbours, flags);
+    let top = rows.top;
+    let left = rows.left;
+    fills::put(&top, &left, flags, mode, out);
+}
+
+// The permitted mode with the least SAD, the lower number on a tie.
+pub fn chosen(neighbours: &[u8], flags: u8, samples: &[u8]) -> Choice
+    requires { ⌜ (length (now neighbours) ≡ 13) × (length (now samples) ≡ 16) ⌝ }
+    ensures { λ r. ⌜ Picks (mask (now (neighbours .entry)) flags) (now (samples .entry)) r ⌝ }
+{
+    let rows = samples::resolve(neighbours, flags);
+    let top = rows.top;
+    let left = rows.left;
+    let mut area = [0u8; 144];
+    fills::put_all(&top, &left, flags, &mut area);
+    let best = choice::best(&area, flags, samples);
+    let at = 16 * (best.mode as usize);
+    Choice {
+        mode: best.mode,
+        sad: best.sad,
+        prediction: fills::taken(&area, at),
+    }
+}

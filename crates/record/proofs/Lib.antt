@@ -1,0 +1,10 @@
+pub mod Back
+pub mod Bits
+pub mod Forms
+pub mod Heads
+pub mod Levels
+pub mod Measured
+pub mod Modes
+pub mod Sums
+pub mod Unique
+pub mod Walks
