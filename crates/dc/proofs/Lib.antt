@@ -4,3 +4,4 @@ pub mod Levels
 pub mod Measured
 pub mod Unique
 pub mod Values
+pub mod Witness

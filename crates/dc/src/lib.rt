@@ -36,9 +36,9 @@ pub fn luma_dc_levels(qp: u8, dc: &[i32], levels: &mut [i32]) -> Answer
             whole::inner::copy(dc, &mut w);
             let coded = inner::luma_levels(quantizer, w);
             let back = residual::inner::in_zigzag(inner::luma_values(quantizer, coded));
-            let wide = whole::inner::first_outside(&back, -32768, 32767);
-            if wide < 16 {
-                return Answer::Refused(Refusal::Own(wide));
+            let own = whole::inner::first_outside(&back, -32768, 32767);
+            if own < 16 {
+                return Answer::Refused(Refusal::Own(own));
             }
             whole::inner::copy(&coded, levels);
             Answer::Done
@@ -53,17 +53,17 @@ pub fn luma_dc_values(qp: u8, levels: &[i32], dc: &mut [i32]) -> Answer
     match accepted(16, qp, levels.len(), dc.len()) {
         Built::Refused(refusal) => Answer::Refused(refusal),
         Built::Legal(quantizer) => {
-            let large = whole::inner::first_outside(levels, -32768, 32767);
-            if large < 16 {
-                return Answer::Refused(Refusal::Level(large));
+            let wide = whole::inner::first_outside(levels, -32768, 32767);
+            if wide < 16 {
+                return Answer::Refused(Refusal::Level(wide));
             }
             let mut z = [0i32; 16];
             whole::inner::copy(levels, &mut z);
             let values = inner::luma_values(quantizer, z);
             let ordered = residual::inner::in_zigzag(values);
-            let wide = whole::inner::first_outside(&ordered, -32768, 32767);
-            if wide < 16 {
-                return Answer::Refused(Refusal::Range(wide));
+            let far = whole::inner::first_outside(&ordered, -32768, 32767);
+            if far < 16 {
+                return Answer::Refused(Refusal::Range(far));
             }
             whole::inner::copy(&values, dc);
             Answer::Done
@@ -98,16 +98,16 @@ pub fn chroma_dc_values(qp: u8, levels: &[i32], dc: &mut [i32]) -> Answer
     match accepted(4, qp, levels.len(), dc.len()) {
         Built::Refused(refusal) => Answer::Refused(refusal),
         Built::Legal(quantizer) => {
-            let large = whole::inner::first_outside(levels, -32768, 32767);
-            if large < 4 {
-                return Answer::Refused(Refusal::Level(large));
+            let wide = whole::inner::first_outside(levels, -32768, 32767);
+            if wide < 4 {
+                return Answer::Refused(Refusal::Level(wide));
             }
             let mut z = [0i32; 4];
             whole::inner::copy(levels, &mut z);
             let values = inner::chroma_values(quantizer, z);
-            let wide = whole::inner::first_outside(&values, -32768, 32767);
-            if wide < 4 {
-                return Answer::Refused(Refusal::Range(wide));
+            let far = whole::inner::first_outside(&values, -32768, 32767);
+            if far < 4 {
+                return Answer::Refused(Refusal::Range(far));
             }
             whole::inner::copy(&values, dc);
             Answer::Done
