@@ -2,7 +2,7 @@
 --     products-within                   numbers times the scale of class a, over the power of two
 --     luma-back, chroma-back            g of levels of 16 bits
 --     scaled-zero, scaled-one, scaled-high, luma-scaled-by     the scaling rule at k = 2, as the code has it: periods 0, 1 and from 2 on
---     chroma-scaled-by, chroma-values-length     chroma's plain shift, and that its values are four
+--     chroma-shift, chroma-scaled-by, chroma-values-length     chroma's plain shift, and that its values are four
 -- Assumes nothing.
 use mathlib.Core.Path.{_≡_, refl, sym, ap, subst, _∙_}
 use mathlib.Core.List.{List}
@@ -71,12 +71,15 @@ luma-scaled-by qp power g round divisor e h =
 
 -- ---- chroma
 
-pub chroma-scaled-by : (qp : ℕ) (g : List ℤ) {scale : ℤ} → scale ≡ pos (vA qp * 2 ^ periodOf qp)
-    → tab 4 (λ k. shrZ (getD g k (pos 0) *ℤ scale +ℤ pos 0) (2 ^ 1)) ≡ chromaScaled qp g
+pub chroma-shift : (v p : ℕ) (x : ℤ) → shrZ (x *ℤ pos (v * 2 ^ p) +ℤ pos 0) (2 ^ 1) ≡ shrZ (x *ℤ pos v *ℤ pos (2 ^ p)) 2
+chroma-shift v p x = ap (λ (z : ℤ). shrZ z 2) (+ℤ-idr (x *ℤ pos (v * 2 ^ p)) ∙ sym (*ℤ-assoc x (pos v) (pos (2 ^ p))))
+
+pub chroma-scaled-by : (qp : ℕ) (g : List ℤ) (round : ℤ) (divisor : ℕ) {scale : ℤ} → scale ≡ pos (vA qp * 2 ^ periodOf qp)
+    → ((x : ℤ) → shrZ (x *ℤ pos (vA qp * 2 ^ periodOf qp) +ℤ round) divisor ≡ shrZ (x *ℤ pos (vA qp) *ℤ pos (2 ^ periodOf qp)) 2)
+    → tab 4 (λ k. shrZ (getD g k (pos 0) *ℤ scale +ℤ round) divisor) ≡ chromaScaled qp g
 unfolding chromaScaled
-chroma-scaled-by qp g e =
-    (λ i. tab 4 (λ k. shrZ (getD g k (pos 0) *ℤ e i +ℤ pos 0) 2))
-    ∙ λ i. tab 4 (λ k. shrZ ((+ℤ-idr (getD g k (pos 0) *ℤ pos (vA qp * 2 ^ periodOf qp)) ∙ sym (*ℤ-assoc (getD g k (pos 0)) (pos (vA qp)) (pos (2 ^ periodOf qp)))) i) 2)
+chroma-scaled-by qp g round divisor e h =
+    (λ i. tab 4 (λ k. shrZ (getD g k (pos 0) *ℤ e i +ℤ round) divisor)) ∙ (λ i. tab 4 (λ k. h (getD g k (pos 0)) i))
 
 pub chroma-values-length : (qp : ℕ) (levels : List ℤ) → length (chromaValues qp levels) ≡ 4
 unfolding chromaValues chromaScaled

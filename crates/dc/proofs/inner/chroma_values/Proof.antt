@@ -11,7 +11,7 @@ use mir.ValLaws.{toZ-ofZ}
 use Rattle.quantizer.specs.Range.{periodOf}
 use Rattle.transform.proofs.Sides.{kept}
 use Rattle.dc.specs.Dc.{vA, chromaScaled, chromaValues}
-use Rattle.dc.proofs.Values.{products-within, chroma-back, chroma-scaled-by}
+use Rattle.dc.proofs.Values.{products-within, chroma-back, chroma-shift, chroma-scaled-by}
 use Rattle.dc.proofs.inner.chroma_values.Statement.{statement}
 use Rattle.dc.proofs.inner.chroma_values.Tie as tie
 
@@ -44,7 +44,7 @@ returns c =
     let s = c .before .before .before .before in
     let qp = s .args .quantizer .qp in
     c .scaled-four .ensures
-    ∙ chroma-scaled-by qp (c .before .before .before .hadamard2 .result) (scale-is (c .before))
+    ∙ chroma-scaled-by qp (c .before .before .before .hadamard2 .result) _ _ (scale-is (c .before)) (chroma-shift (vA qp) (periodOf qp))
     ∙ ap (chromaScaled qp) (c .before .before .before .hadamard2 .ensures)
 
 pub chroma-values-spec : {M : Type 1} → statement M
