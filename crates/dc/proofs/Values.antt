@@ -61,25 +61,29 @@ module _ (v : ℕ) (x : ℤ) where
       rw (le-leb 2 p h)
       (shr-one (x *ℤ pos (v * 2 ^ (p - 2)) +ℤ pos 0) ∙ +ℤ-idr (x *ℤ pos (v * 2 ^ (p - 2))) ∙ sym (*ℤ-assoc x (pos v) (pos (2 ^ (p - 2)))))
 
--- what one arm of the code's match leaves
-pub luma-scaled-by : (qp power : ℕ) (g : List ℤ) (round : ℤ) (divisor : ℕ) {scale : ℤ} → scale ≡ pos (vA qp * 2 ^ power)
+-- what one arm of the code's match returns
+pub luma-scaled-by : (qp power : ℕ) (g : List ℤ) (scale round : ℤ) (divisor : ℕ) {r : List ℤ}
+    → r ≡ tab 16 (λ k. shrZ (getD g k (pos 0) *ℤ scale +ℤ round) divisor)
+    → scale ≡ pos (vA qp * 2 ^ power)
     → ((x : ℤ) → shrZ (x *ℤ pos (vA qp * 2 ^ power) +ℤ round) divisor ≡ scaledBy 2 (periodOf qp) (x *ℤ pos (vA qp)))
-    → tab 16 (λ k. shrZ (getD g k (pos 0) *ℤ scale +ℤ round) divisor) ≡ lumaScaled qp g
+    → r ≡ lumaScaled qp g
 unfolding lumaScaled
-luma-scaled-by qp power g round divisor e h =
-    (λ i. tab 16 (λ k. shrZ (getD g k (pos 0) *ℤ e i +ℤ round) divisor)) ∙ (λ i. tab 16 (λ k. h (getD g k (pos 0)) i))
+luma-scaled-by qp power g scale round divisor made e h =
+    made ∙ (λ i. tab 16 (λ k. shrZ (getD g k (pos 0) *ℤ e i +ℤ round) divisor)) ∙ (λ i. tab 16 (λ k. h (getD g k (pos 0)) i))
 
 -- ---- chroma
 
 pub chroma-shift : (v p : ℕ) (x : ℤ) → shrZ (x *ℤ pos (v * 2 ^ p) +ℤ pos 0) (2 ^ 1) ≡ shrZ (x *ℤ pos v *ℤ pos (2 ^ p)) 2
 chroma-shift v p x = ap (λ (z : ℤ). shrZ z 2) (+ℤ-idr (x *ℤ pos (v * 2 ^ p)) ∙ sym (*ℤ-assoc x (pos v) (pos (2 ^ p))))
 
-pub chroma-scaled-by : (qp : ℕ) (g : List ℤ) (round : ℤ) (divisor : ℕ) {scale : ℤ} → scale ≡ pos (vA qp * 2 ^ periodOf qp)
+pub chroma-scaled-by : (qp : ℕ) (g : List ℤ) (scale round : ℤ) (divisor : ℕ) {r : List ℤ}
+    → r ≡ tab 4 (λ k. shrZ (getD g k (pos 0) *ℤ scale +ℤ round) divisor)
+    → scale ≡ pos (vA qp * 2 ^ periodOf qp)
     → ((x : ℤ) → shrZ (x *ℤ pos (vA qp * 2 ^ periodOf qp) +ℤ round) divisor ≡ shrZ (x *ℤ pos (vA qp) *ℤ pos (2 ^ periodOf qp)) 2)
-    → tab 4 (λ k. shrZ (getD g k (pos 0) *ℤ scale +ℤ round) divisor) ≡ chromaScaled qp g
+    → r ≡ chromaScaled qp g
 unfolding chromaScaled
-chroma-scaled-by qp g round divisor e h =
-    (λ i. tab 4 (λ k. shrZ (getD g k (pos 0) *ℤ e i +ℤ round) divisor)) ∙ (λ i. tab 4 (λ k. h (getD g k (pos 0)) i))
+chroma-scaled-by qp g scale round divisor made e h =
+    made ∙ (λ i. tab 4 (λ k. shrZ (getD g k (pos 0) *ℤ e i +ℤ round) divisor)) ∙ (λ i. tab 4 (λ k. h (getD g k (pos 0)) i))
 
 pub chroma-values-length : (qp : ℕ) (levels : List ℤ) → length (chromaValues qp levels) ≡ 4
 unfolding chromaValues chromaScaled

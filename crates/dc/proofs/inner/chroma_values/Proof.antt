@@ -43,8 +43,7 @@ unfolding chromaValues
 returns c =
     let s = c .before .before .before .before in
     let qp = s .args .quantizer .qp in
-    c .scaled-four .ensures
-    ∙ chroma-scaled-by qp (c .before .before .before .hadamard2 .result) _ _ (scale-is (c .before)) (chroma-shift (vA qp) (periodOf qp))
+    chroma-scaled-by qp (c .before .before .before .hadamard2 .result) _ _ _ (c .scaled-four .ensures) (scale-is (c .before)) (chroma-shift (vA qp) (periodOf qp))
     ∙ ap (chromaScaled qp) (c .before .before .before .hadamard2 .ensures)
 
 pub chroma-values-spec : {M : Type 1} → statement M

@@ -64,16 +64,14 @@ returns c =
     let s = c .before .before .before .before in
     let qp = s .args .quantizer .qp in
     let e : 0 ≡ periodOf (s .args .quantizer .qp) = omega arith in
-    c .scaled-sixteen .ensures
-    ∙ luma-scaled-by qp 0 (s .args .g) _ _ (scale-is (c .before)) (λ x. scaled-zero (vA qp) x ∙ at qp 0 e x)
+    luma-scaled-by qp 0 (s .args .g) _ _ _ (c .scaled-sixteen .ensures) (scale-is (c .before)) (λ x. scaled-zero (vA qp) x ∙ at qp 0 e x)
 
 returns-2 : tie.Need-returns-2
 returns-2 c =
     let s = c .before .before .before .before in
     let qp = s .args .quantizer .qp in
     let e : 1 ≡ periodOf (s .args .quantizer .qp) = omega arith in
-    c .scaled-sixteen2 .ensures
-    ∙ luma-scaled-by qp 0 (s .args .g) _ _ (scale-is-2 (c .before)) (λ x. scaled-one (vA qp) x ∙ at qp 1 e x)
+    luma-scaled-by qp 0 (s .args .g) _ _ _ (c .scaled-sixteen2 .ensures) (scale-is-2 (c .before)) (λ x. scaled-one (vA qp) x ∙ at qp 1 e x)
 
 returns-3 : tie.Need-returns-3
 returns-3 c =
@@ -81,8 +79,7 @@ returns-3 c =
     let qp = s .args .quantizer .qp in
     let p = c .before .before .before .period .result in
     let far : 2 ≤ c .before .before .before .period .result = omega arith in
-    c .scaled-sixteen3 .ensures
-    ∙ luma-scaled-by qp (p - 2) (s .args .g) _ _ (scale-is-3 (c .before)) (λ x. scaled-high (vA qp) x p far ∙ at qp p (c .before .before .before .period .ensures) x)
+    luma-scaled-by qp (p - 2) (s .args .g) _ _ _ (c .scaled-sixteen3 .ensures) (scale-is-3 (c .before)) (λ x. scaled-high (vA qp) x p far ∙ at qp p (c .before .before .before .period .ensures) x)
 
 pub luma-scaled-spec : {M : Type 1} → statement M
 luma-scaled-spec =
