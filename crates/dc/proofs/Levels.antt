@@ -1,12 +1,12 @@
 -- Laws of the DC levels.
 --     mf-small                         the multiplier
 --     luma-around, chroma-around       T of DC values within 4080
---     luma-by, chroma-by               the levels over one multiplier, what is added and the power of two
+--     one-multiplier, levels-by        n levels over one multiplier, what is added and the power of two
 --     luma-levels-each                 luma DC levels fit 16 bits: none is above 6528
 -- Assumes nothing.
-use mathlib.Core.Path.{_≡_, refl, sym, ap, subst, _∙_}
+use mathlib.Core.Path.{_≡_, ap}
 use mathlib.Core.List.{List}
-use Prim.Native.Nat.{ℕ, _+_, _*_, _^_, _<_, _≤_}
+use Prim.Native.Nat.{ℕ, _+_, _*_, _^_, _≤_}
 use native.Mathlib.Omega.{arith}
 use lib.IntN.{ℤ, pos}
 use lib.ListN.{getD, replicate, getD-replicate}
@@ -23,8 +23,8 @@ use Rattle.quantizer.proofs.Tables as tables
 use Rattle.residual.specs.Order.{inZigzag}
 use Rattle.residual.specs.Quantize.{levelBy, levelOf, fOf, qOf}
 use Rattle.residual.proofs.Order.{in-zigzag-each}
-use Rattle.residual.proofs.Quantize.{third-small, level-within}
-use Rattle.dc.specs.Dc.{mfA, quantizedDc, lumaLevels, chromaLevels}
+use Rattle.residual.proofs.Quantize.{level-within}
+use Rattle.dc.specs.Dc.{mfA, quantizedDc, lumaLevels}
 
 pub mf-small : (qp : ℕ) → mfA qp ≤ 13107
 mf-small qp = tables.mf-small (remainderOf qp) (omega arith) A
@@ -37,20 +37,16 @@ chroma-around dc h = each-less 16320 65280 (hadamard 2 H2 dc) (hadamard2-each 40
 
 -- ---- as the code has them
 
-module _ (qp : ℕ) (dc : List ℤ) where
-  pub luma-by : (mf f q : ℕ) (t : List ℤ) → mf ≡ mfA qp → f ≡ 4 * fOf (periodOf qp) → q ≡ qOf (periodOf qp) + 2 → t ≡ hadamard 4 H4 dc
-      → inZigzag (tab 16 (λ k. levelBy (getD (replicate 16 mf) k 0) f q (getD t k (pos 0)))) ≡ lumaLevels qp dc
-  unfolding lumaLevels quantizedDc
-  luma-by mf f q t m e d h =
-      ap inZigzag
-      (tab-same 16 (λ k. levelBy (getD (replicate 16 mf) k 0) f q (getD t k (pos 0))) (λ k. levelBy mf f q (getD t k (pos 0)))
-      (λ k l. ap (λ (n : ℕ). levelBy n f q (getD t k (pos 0))) (getD-replicate 16 k mf 0 l))
-      ∙ (λ i. tab 16 (λ k. levelBy (m i) (e i) (d i) (getD (h i) k (pos 0)))))
+-- sixteen times one multiplier
+pub one-multiplier : (mf f q : ℕ) (t : List ℤ) → tab 16 (λ k. levelBy (getD (replicate 16 mf) k 0) f q (getD t k (pos 0))) ≡ tab 16 (λ k. levelBy mf f q (getD t k (pos 0)))
+one-multiplier mf f q t =
+    tab-same 16 (λ k. levelBy (getD (replicate 16 mf) k 0) f q (getD t k (pos 0))) (λ k. levelBy mf f q (getD t k (pos 0)))
+    (λ k l. ap (λ (n : ℕ). levelBy n f q (getD t k (pos 0))) (getD-replicate 16 k mf 0 l))
 
-  pub chroma-by : (mf f q : ℕ) (t : List ℤ) → mf ≡ mfA qp → f ≡ 2 * fOf (periodOf qp) → q ≡ qOf (periodOf qp) + 1 → t ≡ hadamard 2 H2 dc
-      → tab 4 (λ k. levelBy mf f q (getD t k (pos 0))) ≡ chromaLevels qp dc
-  unfolding chromaLevels quantizedDc
-  chroma-by mf f q t m e d h = λ i. tab 4 (λ k. levelBy (m i) (e i) (d i) (getD (h i) k (pos 0)))
+pub levels-by : (n s qp mf f q : ℕ) (t u : List ℤ) → mf ≡ mfA qp → f ≡ 2 ^ s * fOf (periodOf qp) → q ≡ qOf (periodOf qp) + s → t ≡ u
+    → tab n (λ k. levelBy mf f q (getD t k (pos 0))) ≡ quantizedDc n s qp u
+unfolding quantizedDc
+levels-by n s qp mf f q t u m e d h = λ i. tab n (λ k. levelBy (m i) (e i) (d i) (getD (h i) k (pos 0)))
 
 -- ---- how large they are
 

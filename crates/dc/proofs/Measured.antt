@@ -1,8 +1,8 @@
 -- The starred pieces about the DC paths (01, "Measured pieces"), computed from the definitions that the contracts cite.
 -- Assumes nothing.
 use mathlib.Core.Path.{_≡_, refl}
-use mathlib.Core.List.{List, _∷_}
-use lib.IntN.{ℤ, pos}
+use mathlib.Core.List.{_∷_}
+use lib.IntN.{pos}
 use lib.ListN.{replicate}
 use Rattle.lists.specs.Tab.{tab}
 use Rattle.transform.specs.Hadamard.{hadamard}

@@ -1,12 +1,13 @@
 -- Laws of the DC values.
 --     products-within                   numbers times the scale of class a, over the power of two
 --     luma-back, chroma-back            g of levels of 16 bits
---     scaled-zero, scaled-one, scaled-high, luma-scaled-by     the scaling rule at k = 2, as the code has it: periods 0, 1 and from 2 on
---     chroma-shift, chroma-scaled-by, chroma-values-length     chroma's plain shift, and that its values are four
+--     scaled-by                         n numbers rescaled by a rule
+--     scaled-zero, scaled-one, scaled-high     the scaling rule at k = 2, as the code has it: periods 0, 1 and from 2 on
+--     chroma-shift, chroma-values-length       chroma's plain shift, and that its values are four
 -- Assumes nothing.
-use mathlib.Core.Path.{_≡_, refl, sym, ap, subst, _∙_}
+use mathlib.Core.Path.{_≡_, sym, ap, subst, _∙_}
 use mathlib.Core.List.{List}
-use Prim.Native.Nat.{ℕ, _+_, _-_, _*_, _^_, _<_, _≤_}
+use Prim.Native.Nat.{ℕ, _+_, _-_, _*_, _^_, _≤_}
 use native.Mathlib.Nat.{mul-le-mul}
 use native.Mathlib.Omega.{arith}
 use borrow.Author.Tests.{le-leb}
@@ -22,11 +23,11 @@ use Rattle.whole.proofs.Laws.{*ℤ-assoc, shr-one}
 use Rattle.whole.proofs.Steps.{each-at}
 use Rattle.transform.specs.Hadamard.{H4, H2, hadamard}
 use Rattle.transform.proofs.Bounds.{hadamard4-each, hadamard2-each}
-use Rattle.quantizer.specs.Range.{highest, periodOf, remainderOf}
+use Rattle.quantizer.specs.Range.{periodOf, remainderOf}
 use Rattle.quantizer.specs.declared.Class.the-variants.{A}
 use Rattle.quantizer.proofs.Tables.{v-small}
 use Rattle.residual.specs.Rescale.{scaledBy}
-use Rattle.dc.specs.Dc.{vA, lumaScaled, chromaScaled, chromaValues}
+use Rattle.dc.specs.Dc.{vA, chromaScaled, chromaValues}
 
 -- ---- bounds
 
@@ -43,6 +44,16 @@ luma-back levels h = hadamard4-each 32768 levels h
 
 pub chroma-back : (levels : List ℤ) → Each 32768 levels → Each 131072 (hadamard 2 H2 levels)
 chroma-back levels h = hadamard2-each 32768 levels h
+
+-- ---- n numbers rescaled, as the code has them: each by a rule that the product, what is added and the divisor meet
+
+pub scaled-by : (n qp power : ℕ) (g : List ℤ) (scale round : ℤ) (divisor : ℕ) (rule : ℤ → ℤ) {r : List ℤ}
+    → r ≡ tab n (λ k. shrZ (getD g k (pos 0) *ℤ scale +ℤ round) divisor)
+    → scale ≡ pos (vA qp * 2 ^ power)
+    → ((x : ℤ) → shrZ (x *ℤ pos (vA qp * 2 ^ power) +ℤ round) divisor ≡ rule x)
+    → r ≡ tab n (λ k. rule (getD g k (pos 0)))
+scaled-by n qp power g scale round divisor rule made e h =
+    made ∙ (λ i. tab n (λ k. shrZ (getD g k (pos 0) *ℤ e i +ℤ round) divisor)) ∙ (λ i. tab n (λ k. h (getD g k (pos 0)) i))
 
 -- ---- luma
 
@@ -61,29 +72,10 @@ module _ (v : ℕ) (x : ℤ) where
       rw (le-leb 2 p h)
       (shr-one (x *ℤ pos (v * 2 ^ (p - 2)) +ℤ pos 0) ∙ +ℤ-idr (x *ℤ pos (v * 2 ^ (p - 2))) ∙ sym (*ℤ-assoc x (pos v) (pos (2 ^ (p - 2)))))
 
--- what one arm of the code's match returns
-pub luma-scaled-by : (qp power : ℕ) (g : List ℤ) (scale round : ℤ) (divisor : ℕ) {r : List ℤ}
-    → r ≡ tab 16 (λ k. shrZ (getD g k (pos 0) *ℤ scale +ℤ round) divisor)
-    → scale ≡ pos (vA qp * 2 ^ power)
-    → ((x : ℤ) → shrZ (x *ℤ pos (vA qp * 2 ^ power) +ℤ round) divisor ≡ scaledBy 2 (periodOf qp) (x *ℤ pos (vA qp)))
-    → r ≡ lumaScaled qp g
-unfolding lumaScaled
-luma-scaled-by qp power g scale round divisor made e h =
-    made ∙ (λ i. tab 16 (λ k. shrZ (getD g k (pos 0) *ℤ e i +ℤ round) divisor)) ∙ (λ i. tab 16 (λ k. h (getD g k (pos 0)) i))
-
 -- ---- chroma
 
 pub chroma-shift : (v p : ℕ) (x : ℤ) → shrZ (x *ℤ pos (v * 2 ^ p) +ℤ pos 0) (2 ^ 1) ≡ shrZ (x *ℤ pos v *ℤ pos (2 ^ p)) 2
 chroma-shift v p x = ap (λ (z : ℤ). shrZ z 2) (+ℤ-idr (x *ℤ pos (v * 2 ^ p)) ∙ sym (*ℤ-assoc x (pos v) (pos (2 ^ p))))
-
-pub chroma-scaled-by : (qp : ℕ) (g : List ℤ) (scale round : ℤ) (divisor : ℕ) {r : List ℤ}
-    → r ≡ tab 4 (λ k. shrZ (getD g k (pos 0) *ℤ scale +ℤ round) divisor)
-    → scale ≡ pos (vA qp * 2 ^ periodOf qp)
-    → ((x : ℤ) → shrZ (x *ℤ pos (vA qp * 2 ^ periodOf qp) +ℤ round) divisor ≡ shrZ (x *ℤ pos (vA qp) *ℤ pos (2 ^ periodOf qp)) 2)
-    → r ≡ chromaScaled qp g
-unfolding chromaScaled
-chroma-scaled-by qp g scale round divisor made e h =
-    made ∙ (λ i. tab 4 (λ k. shrZ (getD g k (pos 0) *ℤ e i +ℤ round) divisor)) ∙ (λ i. tab 4 (λ k. h (getD g k (pos 0)) i))
 
 pub chroma-values-length : (qp : ℕ) (levels : List ℤ) → length (chromaValues qp levels) ≡ 4
 unfolding chromaValues chromaScaled

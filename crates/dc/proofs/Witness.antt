@@ -18,9 +18,8 @@ use Rattle.refusal.specs.declared.Refusal.{Refusal}
 use Rattle.whole.specs.Range.{firstOutside, inside}
 use Rattle.transform.specs.Hadamard.{hadamard}
 use Rattle.residual.specs.Order.{inZigzag, inPlaces}
-use Rattle.residual.specs.Quantize.{levelBy}
 use Rattle.residual.specs.Rescale.{scaledBy}
-use Rattle.dc.specs.Dc.{quantizedDc, lumaLevels, lumaScaled, lumaValues, chromaScaled, chromaValues}
+use Rattle.dc.specs.Dc.{lumaScaled, lumaValues, chromaScaled, chromaValues}
 use Rattle.dc.specs.Entry.{lumaLevelsTests, lumaValuesTests, chromaLevelsTests, chromaValuesTests}
 
 -- number and place of what tests come to

@@ -1,7 +1,7 @@
 // Levels and values of the DC paths over arrays by value, for callers that have tested their numbers.
 ghost use mathlib.Core.Path.{_≡_};
-ghost use Prim.Native.Nat.{ℕ, _+_, _*_, _^_, _<_, _≤_};
-ghost use lib.IntN.{ℤ, pos, _+ℤ_, _*ℤ_};
+ghost use Prim.Native.Nat.{ℕ, _^_, _<_, _≤_};
+ghost use lib.IntN.{pos, _+ℤ_, _*ℤ_};
 ghost use lib.ListN.{getD};
 ghost use lib.Signed.{shrZ};
 ghost use Rattle.lists.specs.Tab.{tab};

@@ -1,7 +1,6 @@
 -- `dc::accepted` meets its contract: two lengths, then the quantizer's own test. Assumes nothing.
 use borrow.Author.Needs.{needs}
 use mathlib.Core.Path.{sym, ap, _∙_}
-use Prim.Native.Nat.{ℕ}
 use Rattle.lists.specs.Chain.{Verdict, written}
 use Rattle.refusal.specs.declared.Refusal.{Refusal}
 use Rattle.refusal.proofs.Same.{says, says-same}

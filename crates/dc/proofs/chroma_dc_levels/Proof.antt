@@ -1,14 +1,13 @@
 -- `dc::chroma_dc_levels` meets its contract: each verdict by its law, and the levels by value between two copies. Assumes nothing.
 use borrow.Author.Needs.{needs}
-use mathlib.Core.Path.{_≡_, sym, ap, subst, _∙_}
-use mathlib.Core.List.{List, [], _∷_}
-use Prim.Native.Nat.{ℕ, _≤_}
+use mathlib.Core.Path.{_≡_, sym, ap, _∙_}
+use mathlib.Core.List.{[], _∷_}
+use Prim.Native.Nat.{ℕ}
 use native.Mathlib.Omega.{arith}
 use lib.IntN.{pos, negsuc}
 use lib.ListN.{length}
 use Rattle.lists.specs.Chain.{stop}
 use Rattle.lists.proofs.Chain.{chain-passed, chain-refused, written-passed, written-refused}
-use Rattle.whole.specs.Bounds.{Each}
 use Rattle.whole.proofs.Range.{none-each}
 use Rattle.refusal.specs.declared.Refusal.the-variants.{Residual}
 use Rattle.refusal.proofs.Same.{says}

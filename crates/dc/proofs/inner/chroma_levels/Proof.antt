@@ -4,10 +4,12 @@ use mathlib.Core.Path.{ap, _∙_}
 use Prim.Native.Nat.{ℕ, _+_, _*_, _≤_}
 use native.Mathlib.Omega.{arith}
 use Rattle.whole.proofs.Lists.{each-less}
+use Rattle.transform.specs.Hadamard.{H2, hadamard}
 use Rattle.transform.proofs.Sides.{kept}
 use Rattle.residual.specs.Quantize.{fOf}
 use Rattle.residual.proofs.Quantize.{third-small}
-use Rattle.dc.proofs.Levels.{mf-small, chroma-around, chroma-by}
+use Rattle.dc.specs.Dc.{chromaLevels}
+use Rattle.dc.proofs.Levels.{mf-small, chroma-around, levels-by}
 use Rattle.dc.proofs.inner.chroma_levels.Statement.{statement}
 use Rattle.dc.proofs.inner.chroma_levels.Tie as tie
 
@@ -52,11 +54,12 @@ levels-of-four-requires c κs =
     )
 
 returns : tie.Need-returns
+unfolding chromaLevels
 returns c =
     let s = c .before .before .before .before .before in
     let period = c .before .before .before .period .ensures in
     c .levels-of-four .ensures
-    ∙ chroma-by (s .args .quantizer .qp) (s .args .dc) _ _ _ _
+    ∙ levels-by 4 1 (s .args .quantizer .qp) _ _ _ _ (hadamard 2 H2 (s .args .dc))
     (c .before .before .mf .ensures) (ap (λ (n : ℕ). 2 * n) (c .before .third .ensures ∙ ap fOf period)) (ap (λ (n : ℕ). 15 + n + 1) period)
     (c .before .before .before .before .hadamard2 .ensures)
 

@@ -1,19 +1,22 @@
 -- `dc::inner::chroma_values` meets its contract: through the 2x2 H, and the plain shift. Assumes nothing.
 use borrow.Author.Needs.{needs}
-use mathlib.Core.List.{List}
 use mathlib.Core.Path.{_≡_, ap, _∙_}
 use Prim.Native.Nat.{ℕ, _*_, _^_}
 use native.Mathlib.Omega.{arith}
-use lib.IntN.{ℤ, pos}
+use lib.IntN.{ℤ, pos, _*ℤ_}
+use lib.Signed.{shrZ}
 use mir.Syntax.{w32}
 use mir.Val.{SFits, toZ, ofZ}
 use mir.ValLaws.{toZ-ofZ}
 use Rattle.quantizer.specs.Range.{periodOf}
 use Rattle.transform.proofs.Sides.{kept}
 use Rattle.dc.specs.Dc.{vA, chromaScaled, chromaValues}
-use Rattle.dc.proofs.Values.{products-within, chroma-back, chroma-shift, chroma-scaled-by}
+use Rattle.dc.proofs.Values.{products-within, chroma-back, scaled-by, chroma-shift}
 use Rattle.dc.proofs.inner.chroma_values.Statement.{statement}
 use Rattle.dc.proofs.inner.chroma_values.Tie as tie
+
+abbrev rule : ℕ → ℤ → ℤ
+rule qp x = shrZ (x *ℤ pos (vA qp) *ℤ pos (2 ^ periodOf qp)) 2
 
 -- the scale, as it is read back
 scale-is : (c : tie.After-scale) → toZ w32 (ofZ w32 (c .scale .result)) ≡ pos (vA (c .before .before .before .args .quantizer .qp) * 2 ^ periodOf (c .before .before .before .args .quantizer .qp))
@@ -39,11 +42,11 @@ scaled-four-requires c κs =
     ((λ k l. products-within 131072 8 qp (periodOf qp) (c .before .before .hadamard2 .result) (scale-is c) (omega arith) g k), record { size = omega arith }, omega arith)
 
 returns : tie.Need-returns
-unfolding chromaValues
+unfolding chromaValues chromaScaled
 returns c =
     let s = c .before .before .before .before in
     let qp = s .args .quantizer .qp in
-    chroma-scaled-by qp (c .before .before .before .hadamard2 .result) _ _ _ (c .scaled-four .ensures) (scale-is (c .before)) (chroma-shift (vA qp) (periodOf qp))
+    scaled-by 4 qp (periodOf qp) (c .before .before .before .hadamard2 .result) _ _ _ (rule qp) (c .scaled-four .ensures) (scale-is (c .before)) (chroma-shift (vA qp) (periodOf qp))
     ∙ ap (chromaScaled qp) (c .before .before .before .hadamard2 .ensures)
 
 pub chroma-values-spec : {M : Type 1} → statement M

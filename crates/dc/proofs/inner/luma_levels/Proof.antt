@@ -1,15 +1,17 @@
 -- `dc::inner::luma_levels` meets its contract: through H, a level for each place, the zigzag. Assumes nothing.
 use borrow.Author.Needs.{needs}
-use mathlib.Core.Path.{_≡_, sym, ap, subst, _∙_}
+use mathlib.Core.Path.{sym, ap, subst, _∙_}
 use Prim.Native.Nat.{ℕ, _+_, _*_, _≤_}
 use native.Mathlib.Omega.{arith}
-use lib.ListN.{getD, replicate, getD-replicate}
+use lib.ListN.{getD-replicate}
 use Rattle.whole.proofs.Lists.{each-less}
+use Rattle.transform.specs.Hadamard.{H4, hadamard}
 use Rattle.transform.proofs.Sides.{kept}
 use Rattle.residual.specs.Order.{inZigzag}
 use Rattle.residual.specs.Quantize.{fOf}
 use Rattle.residual.proofs.Quantize.{third-small}
-use Rattle.dc.proofs.Levels.{mf-small, luma-around, luma-by}
+use Rattle.dc.specs.Dc.{lumaLevels}
+use Rattle.dc.proofs.Levels.{mf-small, luma-around, one-multiplier, levels-by}
 use Rattle.dc.proofs.inner.luma_levels.Statement.{statement}
 use Rattle.dc.proofs.inner.luma_levels.Tie as tie
 
@@ -58,14 +60,17 @@ in-zigzag-requires : tie.Need-in-zigzag-requires
 in-zigzag-requires c κs = search needs
 
 returns : tie.Need-returns
+unfolding lumaLevels
 returns c =
     let s = c .before .before .before .before .before .before in
     let period = c .before .before .before .before .period .ensures in
     c .in-zigzag .ensures
-    ∙ ap inZigzag (c .before .levels-of .ensures)
-    ∙ luma-by (s .args .quantizer .qp) (s .args .dc) _ _ _ _
+    ∙ ap inZigzag
+    (c .before .levels-of .ensures
+    ∙ one-multiplier (c .before .before .before .mf .result) _ _ (c .before .before .before .before .before .hadamard4 .result)
+    ∙ levels-by 16 2 (s .args .quantizer .qp) _ _ _ _ (hadamard 4 H4 (s .args .dc))
     (c .before .before .before .mf .ensures) (ap (λ (n : ℕ). 4 * n) (c .before .before .third .ensures ∙ ap fOf period)) (ap (λ (n : ℕ). 15 + n + 2) period)
-    (c .before .before .before .before .before .hadamard4 .ensures)
+    (c .before .before .before .before .before .hadamard4 .ensures))
 
 pub luma-levels-spec : {M : Type 1} → statement M
 luma-levels-spec =

@@ -1,6 +1,6 @@
 -- `dc::inner::luma_scaled` meets its contract: each arm is the scaling rule at its periods. Assumes nothing.
 use borrow.Author.Needs.{needs}
-use mathlib.Core.Path.{_≡_, sym, ap, _∙_}
+use mathlib.Core.Path.{_≡_, ap, _∙_}
 use Prim.Native.Nat.{ℕ, _-_, _*_, _^_, _≤_}
 use native.Mathlib.Omega.{arith}
 use lib.IntN.{ℤ, pos, _*ℤ_}
@@ -9,13 +9,16 @@ use mir.Val.{SFits, toZ, ofZ}
 use mir.ValLaws.{toZ-ofZ}
 use Rattle.quantizer.specs.Range.{periodOf}
 use Rattle.residual.specs.Rescale.{scaledBy}
-use Rattle.dc.specs.Dc.{vA}
-use Rattle.dc.proofs.Values.{products-within, scaled-zero, scaled-one, scaled-high, luma-scaled-by}
+use Rattle.dc.specs.Dc.{vA, lumaScaled}
+use Rattle.dc.proofs.Values.{products-within, scaled-zero, scaled-one, scaled-high, scaled-by}
 use Rattle.dc.proofs.inner.luma_scaled.Statement.{statement}
 use Rattle.dc.proofs.inner.luma_scaled.Tie as tie
 
+abbrev rule : ℕ → ℤ → ℤ
+rule qp x = scaledBy 2 (periodOf qp) (x *ℤ pos (vA qp))
+
 -- the rule at a period that is known by another name
-at : (qp : ℕ) (p : ℕ) → p ≡ periodOf qp → (x : ℤ) → scaledBy 2 p (x *ℤ pos (vA qp)) ≡ scaledBy 2 (periodOf qp) (x *ℤ pos (vA qp))
+at : (qp : ℕ) (p : ℕ) → p ≡ periodOf qp → (x : ℤ) → scaledBy 2 p (x *ℤ pos (vA qp)) ≡ rule qp x
 at qp p e x = ap (λ (p : ℕ). scaledBy 2 p (x *ℤ pos (vA qp))) e
 
 -- the scale of each arm, as it is read back
@@ -60,26 +63,29 @@ scaled-sixteen-requires-3 c κs =
     ((λ k l. products-within 524288 6 (s .args .quantizer .qp) (c .before .before .period .result - 2) (s .args .g) (scale-is-3 c) power (s .pre .1) k), record { size = omega arith }, omega arith)
 
 returns : tie.Need-returns
+unfolding lumaScaled
 returns c =
     let s = c .before .before .before .before in
     let qp = s .args .quantizer .qp in
     let e : 0 ≡ periodOf (s .args .quantizer .qp) = omega arith in
-    luma-scaled-by qp 0 (s .args .g) _ _ _ (c .scaled-sixteen .ensures) (scale-is (c .before)) (λ x. scaled-zero (vA qp) x ∙ at qp 0 e x)
+    scaled-by 16 qp 0 (s .args .g) _ _ _ (rule qp) (c .scaled-sixteen .ensures) (scale-is (c .before)) (λ x. scaled-zero (vA qp) x ∙ at qp 0 e x)
 
 returns-2 : tie.Need-returns-2
+unfolding lumaScaled
 returns-2 c =
     let s = c .before .before .before .before in
     let qp = s .args .quantizer .qp in
     let e : 1 ≡ periodOf (s .args .quantizer .qp) = omega arith in
-    luma-scaled-by qp 0 (s .args .g) _ _ _ (c .scaled-sixteen2 .ensures) (scale-is-2 (c .before)) (λ x. scaled-one (vA qp) x ∙ at qp 1 e x)
+    scaled-by 16 qp 0 (s .args .g) _ _ _ (rule qp) (c .scaled-sixteen2 .ensures) (scale-is-2 (c .before)) (λ x. scaled-one (vA qp) x ∙ at qp 1 e x)
 
 returns-3 : tie.Need-returns-3
+unfolding lumaScaled
 returns-3 c =
     let s = c .before .before .before .before in
     let qp = s .args .quantizer .qp in
     let p = c .before .before .before .period .result in
     let far : 2 ≤ c .before .before .before .period .result = omega arith in
-    luma-scaled-by qp (p - 2) (s .args .g) _ _ _ (c .scaled-sixteen3 .ensures) (scale-is-3 (c .before)) (λ x. scaled-high (vA qp) x p far ∙ at qp p (c .before .before .before .period .ensures) x)
+    scaled-by 16 qp (p - 2) (s .args .g) _ _ _ (rule qp) (c .scaled-sixteen3 .ensures) (scale-is-3 (c .before)) (λ x. scaled-high (vA qp) x p far ∙ at qp p (c .before .before .before .period .ensures) x)
 
 pub luma-scaled-spec : {M : Type 1} → statement M
 luma-scaled-spec =
