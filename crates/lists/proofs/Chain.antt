@@ -1,9 +1,11 @@
 -- The law of a chain of tests: refused exactly if a test fails and all before it pass, passed exactly if all pass.
+--     AllPass, RefusedWith, ExactlyIf, chain-exactly-if
+--     chain-passed, chain-refused     a chain behind a chain
 -- Assumes nothing.
 use mathlib.Core.Path.{_≡_, refl, sym, ap, _∙_}
 use mathlib.Core.Bool.{Bool, true, false, cond}
 use mathlib.Core.Logic.{_⊎_, inl, inr, _↔_}
-use mathlib.Core.List.{List, [], _∷_}
+use mathlib.Core.List.{List, [], _∷_, _++_}
 use Prim.Native.Nat.{ℕ}
 use native.Mathlib.Omega.{arith}
 use Rattle.lists.specs.Chain.{Test, Verdict, pass, stop, chain}
@@ -50,6 +52,19 @@ module _ {R : Type 0} where
       by : (chain ts ≡ stop r → RefusedWith ts r) → (b : Bool) → t .passes ≡ b → cond b (chain ts) (stop (t .refusal)) ≡ stop r → RefusedWith (t ∷ ts) r
       by rest true p q = inr (p, rest q)
       by rest false p q = inl (p, stop-inner q)
+
+  -- a chain behind a chain
+  pub chain-passed : (ts us : List (Test R)) → chain ts ≡ pass → chain (ts ++ us) ≡ chain us
+  chain-passed [] us e = refl
+  chain-passed (t ∷ ts) us e = let h = passed-only (t ∷ ts) e in rw (h .0) (chain-passed ts us (passed-if ts (h .1)))
+
+  pub chain-refused : (ts us : List (Test R)) (r : R) → chain ts ≡ stop r → chain (ts ++ us) ≡ stop r
+  chain-refused [] us r e = absurd (pass-not-stop e)
+  chain-refused (t ∷ ts) us r e = by (chain-refused ts us r) (refused-only (t ∷ ts) r e)
+    where
+      by : (chain ts ≡ stop r → chain (ts ++ us) ≡ stop r) → RefusedWith (t ∷ ts) r → chain (t ∷ (ts ++ us)) ≡ stop r
+      by rest (inl h) = rw (h .0, h .1)
+      by rest (inr h) = rw (h .0) (rest (refused-if ts r (h .1)))
 
   -- both halves, of a chain
   pub record ExactlyIf (ts : List (Test R)) (v : Verdict R) : Type 0 where

@@ -2,6 +2,7 @@
 --     Growing: growing-none, growing-more, growing-part, growing-done       the first n elements are v
 --     growing-all, last-two                                                 straight stores at 0, 1, ..; in the last two places
 --     Pasting: pasting-none, pasting-more, pasting-done                     stores from place a on, the others as they were
+--     copied                                                                a whole list copied over another
 --     parts-none, parts-more, parts-split, part-behind                      parts one behind the other; what stands behind the first k
 --     length-parts, parts-at                                                where all parts are of one size
 --     part-home, part-read                                                  a lent part that comes home, as a paste; read again
@@ -14,8 +15,8 @@ use native.Mathlib.Nat.{not-suc-le-zero, le-of-suc-le-suc, eq-or-lt-of-le, mul-l
 use native.Mathlib.Numerals.{add-one}
 use native.Mathlib.Omega.{arith}
 use borrow.Rule.Slice.PartMut.{putMid, postOf, post-is}
-use lib.ListN.{length, set, take, drop, getD, length-append, length-set, length-drop}
-use lib.Seq.{take-suc-set, take-all, take-at, take-append-le, drop-at, drop-append-le, length-take-le, sets, sets-eq, length-sets, paste, paste-zero, paste-suc}
+use lib.ListN.{length, set, take, drop, getD, length-append, length-set, length-drop, drop-of-length-le}
+use lib.Seq.{take-suc-set, take-all, take-length, take-at, take-append-le, drop-at, drop-append-le, length-take-le, sets, sets-eq, length-sets, paste, paste-zero, paste-suc}
 use Rattle.lists.specs.Parts.{parts, pasted}
 
 module _ {A : Type 0} where
@@ -55,6 +56,10 @@ module _ {A : Type 0} where
 
   pub growing-done : {d v : List A} {n : ℕ} → Growing d v n → length d ≤ n → d ≡ v
   growing-done {d} {v} {n} g h = sym (take-all n d h) ∙ g .is
+
+  -- s copied over the front of a list that is as long
+  pub copied : (s d : List A) → length s ≡ length d → take (length s) s ++ drop (length s) d ≡ s
+  copied s d e = rw (take-length s, drop-of-length-le d {i = length s} (omega arith)) (append-nil s)
 
   pub last-two : (d : List A) (n : ℕ) (a b : A) → length d ≡ n + 2 → set (set d n a) (n + 1) b ≡ take n d ++ (a ∷ b ∷ [])
   last-two d n a b e =

@@ -1,14 +1,23 @@
--- What the test of a quantizer's number comes to, and when a quantizer is refused. Assumes nothing.
+-- What the test of a quantizer's number comes to, and when a quantizer is refused.
+--     legal, high                        the two verdicts
+--     built-legal, built-refused         what a caller learns from the two answers
+--     quantizer-new-refuses-exactly-if
+--     same-built                         an answer is known by what it says and the number that comes back
+-- Assumes nothing.
 use mathlib.Core.Path.{_≡_, refl, sym, ap, _∙_}
 use mathlib.Core.List.{[], _∷_}
 use Prim.Native.Nat.{ℕ, _≤_, _<_, zero-le}
-use borrow.Author.Tests.{le-leb, lt-leb}
+use mathlib.Core.Bool.{Bool, true, false}
+use native.Mathlib.Omega.{arith}
+use borrow.Author.Tests.{le-leb, lt-leb, leb-true, leb-false}
+use lib.Dec.{leb}
 use Rattle.lists.specs.Chain.{Verdict, pass, stop, chain, written}
 use Rattle.lists.proofs.Chain.{ExactlyIf}
 use Rattle.refusal.proofs.Same.{says, says-same, says-exactly-if}
 use Rattle.refusal.specs.declared.Refusal.{Refusal}
 use Rattle.refusal.specs.declared.Refusal.the-variants as refusal
 use Rattle.quantizer.specs.Range.{lowest, highest, tests, said, qpOf, Builds}
+use Rattle.quantizer.specs.declared.Quantizer.{Quantizer}
 use Rattle.quantizer.specs.declared.Built.{Built}
 use Rattle.quantizer.specs.declared.Built.the-variants.{Legal, Refused}
 
@@ -28,3 +37,28 @@ same-built (Legal q) (Legal s) e f = λ i. Legal (record { qp = f i })
 same-built (Legal q) (Refused s) e f = cc
 same-built (Refused r) (Legal s) e f = cc
 same-built (Refused r) (Refused s) e f = let g : r ≡ s = cc in ap Refused g
+
+-- what a caller learns from the two answers
+
+module _ (qp : ℕ) where
+  pub built-legal : {b : Built} {q : Quantizer} → Builds qp b → b ≡ Legal q → (q .qp ≡ qp) × (qp ≤ highest)
+  built-legal {b} {q} p e = by (leb qp highest) refl
+    where
+      by : (t : Bool) → leb qp highest ≡ t → (q .qp ≡ qp) × (qp ≤ highest)
+      by true t =
+          let h = leb-true qp highest t in
+          (sym (ap qpOf e) ∙ p .value ∙ ap (λ (v : Verdict Refusal). written v qp 0) (legal qp h), h)
+      by false t =
+          let z : pass ≡ stop (refusal.Quantizer 0) = sym (ap said e) ∙ says-same (p .says) ∙ high qp (leb-false qp highest t) in
+          let n : _≡_ {A = ℕ} 0 1 = cc in
+          absurd (omega arith)
+
+  pub built-refused : {b : Built} {r : Refusal} → Builds qp b → b ≡ Refused r → highest < qp
+  built-refused {b} {r} p e = by (leb qp highest) refl
+    where
+      by : (t : Bool) → leb qp highest ≡ t → highest < qp
+      by true t =
+          let z : stop r ≡ pass = sym (ap said e) ∙ says-same (p .says) ∙ legal qp (leb-true qp highest t) in
+          let n : _≡_ {A = ℕ} 0 1 = cc in
+          absurd (omega arith)
+      by false t = leb-false qp highest t

@@ -2,14 +2,16 @@
 --     zigzag-permutes     the zigzag visits each of the sixteen places once: step and place undo each other
 --     classes             the class table goes by the parity of row and column
 --     tables-agree        MF times V times 16, 25 or 20 is 2^21, give or take 277
+--     mf-small, v-small   the greatest entries
 -- Assumes nothing.
 use mathlib.Core.Path.{_≡_, refl, sym, ap, _∙_}
 use mathlib.Core.Bool.{Bool, _&&_}
 use mathlib.Core.List.{List, [], _∷_}
 use Prim.Native.Nat.{ℕ, _+_, _*_, _^_, _<_, _≤_}
 use native.Mathlib.Omega.{arith}
-use lib.Dec.{eqb, ltb, leb, eqb→eq, ltb→lt, leb→le}
+use lib.Dec.{T, eqb, ltb, leb, eqb→eq, ltb→lt, leb→le}
 use lib.ListN.{getD}
+use Rattle.lists.specs.Every.{every}
 use Rattle.lists.specs.Total.{distance}
 use Rattle.lists.proofs.Every.{every-at}
 use Rattle.quantizer.specs.Tables.{mfTable, vTable, mfOf, vOf, columnOf, zigzagOf, stepOf, classAtPlace}
@@ -76,3 +78,15 @@ unfolding close
 tables-agree r h A = leb→le _ _ (every-at 6 (λ i. close i 0) tt r h)
 tables-agree r h B = leb→le _ _ (every-at 6 (λ i. close i 1) tt r h)
 tables-agree r h C = leb→le _ _ (every-at 6 (λ i. close i 2) tt r h)
+
+-- ---- the greatest entries
+
+-- no entry of a table of six rows and three columns is above `most`: the checker computes that
+table-small : (table : List ℕ) (most : ℕ) → T (every 18 (λ i. leb (getD table i 0) most)) → (r : ℕ) → r < 6 → (c : Class) → getD table (3 * r + columnOf c) 0 ≤ most
+table-small table most t r h c = leb→le _ _ (every-at 18 (λ i. leb (getD table i 0) most) t (3 * r + columnOf c) (omega (arith, column-lt c)))
+
+pub mf-small : (r : ℕ) → r < 6 → (c : Class) → mfOf r c ≤ 13107
+mf-small = table-small mfTable 13107 tt
+
+pub v-small : (r : ℕ) → r < 6 → (c : Class) → vOf r c ≤ 29
+v-small = table-small vTable 29 tt

@@ -2,6 +2,7 @@
 --     Diff: diff-self, diff-sub, diff-add, diff-minus, diff-neg, diff-mul     z as the difference p - n, and what the operations make of it
 --     same, le-by, lt-by                                                      equal, or in order, by their differences
 --     *ℤ-assoc, *ℤ-+ℤ, +ℤ-*ℤ, neg-mul, mul-one                                the product's laws
+--     shr-one                                                                 a shift by no place
 --     le-nat, lt-nat, nat-le, nat-lt, ruleset `whole`                         the order as one of natural numbers: `omega whole` reads and proves it
 -- Assumes nothing.
 use mathlib.Core.Path.{_≡_, refl, ap}
@@ -9,7 +10,7 @@ use mathlib.Core.Bool.{Bool, true, false, not, cond}
 use Prim.Native.Nat.{ℕ, zero, suc, _+_, _*_, _-_, _<_, _≤_}
 use native.Mathlib.Omega.{arith}
 use lib.IntN.{ℤ, pos, negsuc, negℤ, subℕ, _+ℤ_, _-ℤ_, _*ℤ_}
-use lib.Signed.{_≤ℤ_, _<ℤ_, ltZ, leZ-yes, ltZ-yes, ltZ-no, clashℤ}
+use lib.Signed.{_≤ℤ_, _<ℤ_, shrZ, ltZ, leZ-yes, ltZ-yes, ltZ-no, clashℤ}
 use lib.Dec.{T, ltb, ltb→lt, nltb→le, leb→le, le→leb}
 
 -- z is `up z` minus `down z`, and one of them is 0
@@ -102,6 +103,11 @@ neg-mul x y = same (diff-mul (diff-neg (diff-self x)) (diff-self y)) (diff-neg (
 
 pub mul-one : (x : ℤ) → pos 1 *ℤ x ≡ x
 mul-one x = same (diff-mul (diff-self (pos 1)) (diff-self x)) (diff-self x) (omega arith)
+
+-- a shift by no place
+pub shr-one : (x : ℤ) → shrZ x 1 ≡ x
+shr-one (pos n) = ap pos (omega arith)
+shr-one (negsuc n) = ap negsuc (omega arith)
 
 -- ---- the order, as one of natural numbers
 pub le-nat : {x y : ℤ} → x ≤ℤ y → up x + down y ≤ up y + down x

@@ -1,5 +1,5 @@
 -- Lists of whole numbers: bounds on each, numbers that are read back from their bits, and several results of straight-line code at once.
---     each-less, each-from, each-gather                   bounds of a list
+--     each-less, each-from, each-tab, each-gather         bounds of a list
 --     reads: plain, plain-fits, plain-gather, each-reads  numbers read back from their bits are the numbers
 --     gather                                              the numbers at a list of places
 --     raws-of, ideals, expressions; oks, mosts            a list of `Code`, as `raw`, `ideal`, `expression`, `ok` and `most` of each
@@ -17,6 +17,8 @@ use mir.Syntax.{Width}
 use mir.Val.{toZ, ofZ, SFits, hbits}
 use mir.ValLaws.{toZ-ofZ}
 use Rattle.lists.proofs.Every.{both-left, both-right}
+use Rattle.lists.specs.Tab.{tab}
+use Rattle.lists.proofs.Tab.{length-tab, getD-tab}
 use Rattle.whole.specs.Bounds.{Within, Each}
 use Rattle.whole.proofs.Ring.{Expression}
 use Rattle.whole.proofs.Bound.{here, wrap, within-less}
@@ -45,6 +47,14 @@ each-less A B (z ∷ l) h t = (within-less (h .0) t, each-less A B l (h .1) t)
 pub each-from : (B : ℕ) (l : List ℤ) → ((i : ℕ) → i < length l → Within B (getD l i (pos 0))) → Each B l
 each-from B [] h = tt
 each-from B (z ∷ l) h = (h 0 (omega arith), each-from B l (λ i m. h (suc i) (omega arith)))
+
+-- from the bound of its rule
+pub each-tab : (B n : ℕ) (f : ℕ → ℤ) → ((k : ℕ) → k < n → Within B (f k)) → Each B (tab n f)
+each-tab B n f h =
+    each-from B (tab n f)
+    (λ i l.
+    let m : i < n = rw length-tab at l in
+    subst (λ (z : ℤ). Within B z) (sym (getD-tab n f i (pos 0) m)) (h i m))
 
 -- what a caller hands over for arguments that it reads from locals
 pub each-reads : (w : Width) (A B : ℕ) (l : List ℤ) → Each A l → T (ltb A (2 ^ hbits w)) → T (leb A B) → Each B (reads w l)

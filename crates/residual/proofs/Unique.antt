@@ -1,0 +1,68 @@
+-- The contracts of `residual` determine what its functions answer and leave in their outputs. Assumes nothing.
+use mathlib.Core.Path.{_≡_, refl, sym, _∙_}
+use mathlib.Core.List.{List}
+use Prim.Native.Nat.{ℕ}
+use denote.Ref.{now}
+use lib.IntN.{ℤ}
+use Rattle.unique.specs.Unique.{Unique}
+use Rattle.refusal.proofs.Same.{says-same, same-answer}
+use Rattle.residual.proofs.levels.Kinds as levels
+use Rattle.residual.proofs.levels.Reads as levels-reads
+use Rattle.residual.proofs.rebuild.Kinds as rebuild
+use Rattle.residual.proofs.rebuild.Reads as rebuild-reads
+use Rattle.residual.proofs.rebuild_with_dc.Kinds as rebuild-with-dc
+use Rattle.residual.proofs.rebuild_with_dc.Reads as rebuild-with-dc-reads
+use Rattle.residual.proofs.inner.scale.Kinds as scale
+use Rattle.residual.proofs.inner.scale.Reads as scale-reads
+use Rattle.residual.proofs.inner.third.Kinds as third
+use Rattle.residual.proofs.inner.third.Reads as third-reads
+use Rattle.residual.proofs.inner.level.Kinds as level
+use Rattle.residual.proofs.inner.level.Reads as level-reads
+use Rattle.residual.proofs.inner.levels_of.Kinds as levels-of
+use Rattle.residual.proofs.inner.levels_of.Reads as levels-of-reads
+use Rattle.residual.proofs.inner.quantized.Kinds as quantized
+use Rattle.residual.proofs.inner.quantized.Reads as quantized-reads
+use Rattle.residual.proofs.inner.in_zigzag.Kinds as in-zigzag
+use Rattle.residual.proofs.inner.in_zigzag.Reads as in-zigzag-reads
+use Rattle.residual.proofs.inner.in_places.Kinds as in-places
+use Rattle.residual.proofs.inner.in_places.Reads as in-places-reads
+use Rattle.residual.proofs.inner.rescaled.Kinds as rescaled
+use Rattle.residual.proofs.inner.rescaled.Reads as rescaled-reads
+use Rattle.residual.proofs.inner.samples.Kinds as samples
+use Rattle.residual.proofs.inner.samples.Reads as samples-reads
+
+pub scale-unique : Unique 0 scale.ps scale.r scale-reads.Learnt (Unit {0}) (λ κs e. tt)
+scale-unique κs a x y e f p q = (p ∙ sym q, refl)
+
+pub third-unique : Unique 0 third.ps third.r third-reads.Learnt (Unit {0}) (λ κs e. tt)
+third-unique κs a x y e f p q = (p ∙ sym q, refl)
+
+pub level-unique : Unique 0 level.ps level.r level-reads.Learnt (Unit {0}) (λ κs e. tt)
+level-unique κs a x y e f p q = (p ∙ sym q, refl)
+
+pub levels-of-unique : Unique 0 levels-of.ps levels-of.r levels-of-reads.Learnt (Unit {0}) (λ κs e. tt)
+levels-of-unique κs a x y e f p q = (p ∙ sym q, refl)
+
+pub quantized-unique : Unique 0 quantized.ps quantized.r quantized-reads.Learnt (Unit {0}) (λ κs e. tt)
+quantized-unique κs a x y e f p q = (p ∙ sym q, refl)
+
+pub in-zigzag-unique : Unique 0 in-zigzag.ps in-zigzag.r in-zigzag-reads.Learnt (Unit {0}) (λ κs e. tt)
+in-zigzag-unique κs a x y e f p q = (p ∙ sym q, refl)
+
+pub in-places-unique : Unique 0 in-places.ps in-places.r in-places-reads.Learnt (Unit {0}) (λ κs e. tt)
+in-places-unique κs a x y e f p q = (p ∙ sym q, refl)
+
+pub rescaled-unique : Unique 0 rescaled.ps rescaled.r rescaled-reads.Learnt (Unit {0}) (λ κs e. tt)
+rescaled-unique κs a x y e f p q = (p ∙ sym q, refl)
+
+pub samples-unique : Unique 0 samples.ps samples.r samples-reads.Learnt (Unit {0}) (λ κs e. tt)
+samples-unique κs a x y e f p q = (p ∙ sym q, refl)
+
+pub levels-unique : Unique 2 levels.ps levels.r levels-reads.Learnt (List ℤ) (λ κs e. now (e .1 .1 .0))
+levels-unique κs a x y e f p q = (same-answer x y (says-same (p .says) ∙ sym (says-same (q .says))), p .wrote ∙ sym (q .wrote))
+
+pub rebuild-unique : Unique 3 rebuild.ps rebuild.r rebuild-reads.Learnt (List ℕ) (λ κs e. now (e .1 .1 .1 .0))
+rebuild-unique κs a x y e f p q = (same-answer x y (says-same (p .says) ∙ sym (says-same (q .says))), p .wrote ∙ sym (q .wrote))
+
+pub rebuild-with-dc-unique : Unique 3 rebuild-with-dc.ps rebuild-with-dc.r rebuild-with-dc-reads.Learnt (List ℕ) (λ κs e. now (e .1 .1 .1 .1 .0))
+rebuild-with-dc-unique κs a x y e f p q = (same-answer x y (says-same (p .says) ∙ sym (says-same (q .says))), p .wrote ∙ sym (q .wrote))

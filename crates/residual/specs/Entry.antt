@@ -1,0 +1,90 @@
+-- The entry points: tests in the table's order, and what each leaves (01, "What is sent back, and in which order it is tested").
+-- Assumes nothing.
+use mathlib.Core.Path.{_≡_}
+use mathlib.Core.List.{List, [], _∷_, _++_}
+use Prim.Native.Nat.{ℕ, _+_}
+use lib.Dec.{eqb, leb}
+use lib.IntN.{ℤ, pos, negsuc}
+use lib.ListN.{length}
+use Rattle.lists.specs.Chain.{Test, test, chain, written}
+use Rattle.refusal.specs.Number.{said, Says}
+use Rattle.refusal.specs.declared.Answer.{Answer}
+use Rattle.refusal.specs.declared.Refusal.{Refusal}
+use Rattle.refusal.specs.declared.Refusal.the-variants as refusal
+use Rattle.whole.specs.Range.{firstOutside}
+use Rattle.transform.specs.Entry.{outside}
+use Rattle.quantizer.specs.Range.{highest}
+use Rattle.quantizer.specs.Range as built
+use Rattle.quantizer.specs.declared.Built.{Built}
+use Rattle.residual.specs.Levels.{levelsOf}
+use Rattle.residual.specs.Order.{inZigzag}
+use Rattle.residual.specs.Rebuild.{samplesOf, numbersOf, numbersWithDc}
+
+-- "outside -32768..32767": the first index
+abbrev pub firstWide : List ℤ → ℕ
+firstWide l = firstOutside (negsuc 32767) (pos 32767) l
+
+-- QUANTIZER: "QP above 51"
+abbrev pub quantizerTest : ℕ → Test Refusal
+quantizerTest qp = test (leb qp highest) (refusal.Quantizer 0)
+
+-- RANGE: a rescaled or given DC value, "first index, in the order of the levels"
+abbrev pub rangeTest : List ℤ → Test Refusal
+rangeTest d = test (eqb (firstWide (inZigzag d)) 16) (refusal.Range (firstWide (inZigzag d)))
+
+-- LENGTH of a lent slice
+abbrev pub lengthTest : {A : Type 0} → ℕ → List A → Test Refusal
+lengthTest n l = test (eqb (length l) n) refusal.Length
+
+-- ---- levels: LENGTH, QUANTIZER, RESIDUAL
+
+abbrev pub levelsTests : ℕ → List ℤ → List ℤ → List (Test Refusal)
+levelsTests qp residual out =
+    lengthTest 16 residual
+    ∷ lengthTest 16 out
+    ∷ quantizerTest qp
+    ∷ test (eqb (outside residual) 16) (refusal.Residual (outside residual))
+    ∷ []
+
+pub record Levels (qp : ℕ) (residual out : List ℤ) (r : Answer) (after : List ℤ) : Type 0 where
+  pub says : Says (said r) (chain (levelsTests qp residual out))
+  pub wrote : after ≡ written (chain (levelsTests qp residual out)) (levelsOf qp residual) out
+
+-- ---- the end of rebuilding: RANGE
+
+pub record Finishes (prediction : List ℕ) (d : List ℤ) (out : List ℕ) (r : Answer) (after : List ℕ) : Type 0 where
+  pub says : Says (said r) (chain (rangeTest d ∷ []))
+  pub wrote : after ≡ written (chain (rangeTest d ∷ [])) (samplesOf prediction d) out
+
+-- ---- before it: LENGTH, QUANTIZER, LEVEL of n levels whose indexes count from `from`
+
+abbrev pub levelTests : (n from qp predicted : ℕ) (levels : List ℤ) (room : ℕ) → List (Test Refusal)
+levelTests n from qp predicted levels room =
+    test (eqb predicted 16) refusal.Length
+    ∷ lengthTest n levels
+    ∷ test (eqb room 16) refusal.Length
+    ∷ quantizerTest qp
+    ∷ test (eqb (firstWide levels) n) (refusal.Level (from + firstWide levels))
+    ∷ []
+
+pub record Accepts (n from qp predicted : ℕ) (levels : List ℤ) (room : ℕ) (b : Built) : Type 0 where
+  pub says : Says (built.said b) (chain (levelTests n from qp predicted levels room))
+  pub value : built.qpOf b ≡ written (chain (levelTests n from qp predicted levels room)) qp 0
+
+-- ---- rebuild: LENGTH, QUANTIZER, LEVEL, RANGE
+
+abbrev pub rebuildTests : ℕ → List ℕ → List ℤ → List ℕ → List (Test Refusal)
+rebuildTests qp prediction levels out = levelTests 16 0 qp (length prediction) levels (length out) ++ (rangeTest (numbersOf qp levels) ∷ [])
+
+pub record Rebuilds (qp : ℕ) (prediction : List ℕ) (levels : List ℤ) (out : List ℕ) (r : Answer) (after : List ℕ) : Type 0 where
+  pub says : Says (said r) (chain (rebuildTests qp prediction levels out))
+  pub wrote : after ≡ written (chain (rebuildTests qp prediction levels out)) (samplesOf prediction (numbersOf qp levels)) out
+
+-- ---- rebuild_with_dc: "15 AC levels count from 1", "a given DC is 0"
+
+abbrev pub withDcTests : ℕ → List ℕ → ℤ → List ℤ → List ℕ → List (Test Refusal)
+withDcTests qp prediction dc ac out = levelTests 15 1 qp (length prediction) ac (length out) ++ (rangeTest (numbersWithDc qp dc ac) ∷ [])
+
+pub record RebuildsWithDc (qp : ℕ) (prediction : List ℕ) (dc : ℤ) (ac : List ℤ) (out : List ℕ) (r : Answer) (after : List ℕ) : Type 0 where
+  pub says : Says (said r) (chain (withDcTests qp prediction dc ac out))
+  pub wrote : after ≡ written (chain (withDcTests qp prediction dc ac out)) (samplesOf prediction (numbersWithDc qp dc ac)) out

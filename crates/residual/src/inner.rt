@@ -1,0 +1,172 @@
+// Levels and rescaled numbers of a block by value, for callers that have tested their numbers.
+ghost use mathlib.Core.List.{List};
+ghost use mathlib.Core.Path.{_≡_};
+ghost use Prim.Native.Nat.{ℕ, _*_, _^_, _<_, _≤_};
+ghost use lib.IntN.{ℤ, pos, _+ℤ_, _*ℤ_};
+ghost use lib.ListN.{getD};
+ghost use Rattle.lists.specs.Tab.{tab};
+ghost use Rattle.whole.specs.Clip.{clip};
+ghost use Rattle.whole.specs.Bounds.{Within, Each};
+ghost use Rattle.residual.specs.Quantize.{levelBy, fOf};
+ghost use Rattle.residual.specs.Levels.{quantized};
+ghost use Rattle.quantizer.specs.Range.{highest, periodOf, remainderOf};
+ghost use Rattle.quantizer.specs.Tables.{vOf};
+ghost use Rattle.residual.specs.Rescale.{mfAt, vAt, rescaled};
+ghost use Rattle.residual.specs.Rebuild.{added, samplesOf};
+ghost use Rattle.residual.specs.Order.{inZigzag, inPlaces};
+use quantizer::Class;
+use quantizer::Quantizer;
+
+// The multipliers of the sixteen places.
+pub(crate) fn multipliers(quantizer: Quantizer) -> [u32; 16]
+    ensures { λ r. ⌜ r ≡ tab 16 (mfAt (quantizer .qp)) ⌝ }
+{
+    let a = quantizer.mf(Class::A) as u32;
+    let b = quantizer.mf(Class::B) as u32;
+    let c = quantizer.mf(Class::C) as u32;
+    [a, c, a, c, c, b, c, b, a, c, a, c, c, b, c, b]
+}
+
+// The scale of a class, times a power of two: the period's for a block, a smaller one for luma DC.
+pub fn scale(quantizer: Quantizer, class: Class, power: u8) -> i32
+    requires { ⌜ power ≤ 8 ⌝ }
+    ensures { λ r. ⌜ r ≡ pos (vOf (remainderOf (quantizer .qp)) class * 2 ^ power) ⌝ }
+{
+    let v = quantizer.v(class) as u32;
+    (v << power) as i32
+}
+
+// The scales of the sixteen places.
+pub(crate) fn scales(quantizer: Quantizer) -> [i32; 16]
+    requires { ⌜ quantizer .qp ≤ highest ⌝ }
+    ensures { λ r. ⌜ r ≡ tab 16 (λ place. pos (vAt (quantizer .qp) place * 2 ^ periodOf (quantizer .qp))) ⌝ }
+{
+    let period = quantizer.period();
+    let a = scale(quantizer, Class::A, period);
+    let b = scale(quantizer, Class::B, period);
+    let c = scale(quantizer, Class::C, period);
+    [a, c, a, c, c, b, c, b, a, c, a, c, c, b, c, b]
+}
+
+// The level of a coefficient: its size times mf, and f, divided by 2^q; then its sign.
+pub fn level(y: i32, mf: u32, f: u32, q: u32) -> i32
+    requires { ⌜ (Within 65280 y) × (mf ≤ 13107) × (f ≤ 11184810) × (q ≤ 25) ⌝ }
+    ensures { λ r. ⌜ r ≡ levelBy mf f q y ⌝ }
+{
+    let size = (whole::inner::absolute(y) * mf + f) >> q;
+    let n = size as i32;
+    if y < 0 { 0 - n } else { n }
+}
+
+// The sixteen levels, each by the multiplier of its place.
+pub fn levels_of(y: [i32; 16], mf: [u32; 16], f: u32, q: u32) -> [i32; 16]
+    requires { ⌜ (Each 65280 y) × ((k : ℕ) → k < 16 → getD mf k 0 ≤ 13107) × (f ≤ 11184810) × (q ≤ 25) ⌝ }
+    ensures { λ r. ⌜ r ≡ tab 16 (λ k. levelBy (getD mf k 0) f q (getD y k (pos 0))) ⌝ }
+{
+    let mut levels = [0i32; 16];
+    for k in 0usize..16 {
+        levels[k] = level(y[k], mf[k], f, q);
+    }
+    levels
+}
+
+// What is added before a size is divided: a third of the divisor.
+pub fn third(period: u8) -> u32
+    requires { ⌜ period ≤ 8 ⌝ }
+    ensures { λ r. ⌜ r ≡ fOf period ⌝ }
+{
+    let divisor = 1u32 << (15 + period);
+    divisor / 3
+}
+
+// The levels of sixteen residuals, in raster order.
+pub fn quantized(quantizer: Quantizer, residual: [i32; 16]) -> [i32; 16]
+    requires { ⌜ (quantizer .qp ≤ highest) × (Each 255 residual) ⌝ }
+    ensures { λ r. ⌜ r ≡ quantized (quantizer .qp) residual ⌝ }
+{
+    let coefficients = transform::inner::forward_block(residual);
+    let period = quantizer.period();
+    levels_of(
+        coefficients,
+        multipliers(quantizer),
+        third(period),
+        15 + (period as u32),
+    )
+}
+
+// Sixteen numbers from raster order into zigzag order.
+pub fn in_zigzag(l: [i32; 16]) -> [i32; 16]
+    ensures { λ r. ⌜ r ≡ inZigzag l ⌝ }
+{
+    let mut out = [0i32; 16];
+    for step in 0usize..16 {
+        let place = quantizer::inner::zigzag(step);
+        out[step] = l[place];
+    }
+    out
+}
+
+// And from zigzag order back into raster order.
+pub fn in_places(l: [i32; 16]) -> [i32; 16]
+    ensures { λ r. ⌜ r ≡ inPlaces l ⌝ }
+{
+    let mut out = [0i32; 16];
+    for place in 0usize..16 {
+        let step = quantizer::inner::step(place);
+        out[place] = l[step];
+    }
+    out
+}
+
+fn scaled(level: i32, scale: i32) -> i32
+    requires { ⌜ (Within 32768 level) × (Within 7424 scale) ⌝ }
+    ensures { λ r. ⌜ r ≡ level *ℤ scale ⌝ }
+{
+    level * scale
+}
+
+fn products(levels: [i32; 16], scale: [i32; 16]) -> [i32; 16]
+    requires { ⌜ (Each 32768 levels) × (Each 7424 scale) ⌝ }
+    ensures { λ r. ⌜ r ≡ tab 16 (λ place. getD levels place (pos 0) *ℤ getD scale place (pos 0)) ⌝ }
+{
+    let mut out = [0i32; 16];
+    for place in 0usize..16 {
+        out[place] = scaled(levels[place], scale[place]);
+    }
+    out
+}
+
+// Sixteen levels in raster order, rescaled.
+pub fn rescaled(quantizer: Quantizer, levels: [i32; 16]) -> [i32; 16]
+    requires { ⌜ (quantizer .qp ≤ highest) × (Each 32768 levels) ⌝ }
+    ensures { λ r. ⌜ r ≡ rescaled (quantizer .qp) levels ⌝ }
+{
+    products(levels, scales(quantizer))
+}
+
+fn sample(prediction: u8, residual: i32) -> u8
+    requires { ⌜ Within 1000000 residual ⌝ }
+    ensures { λ r. ⌜ r ≡ clip 255 (pos prediction +ℤ residual) ⌝ }
+{
+    whole::inner::clip(prediction as i32 + residual, 255)
+}
+
+// Sixteen predicted samples plus their residuals, clipped.
+pub(crate) fn added(prediction: [u8; 16], residual: [i32; 16]) -> [u8; 16]
+    requires { ⌜ Each 1000000 residual ⌝ }
+    ensures { λ r. ⌜ r ≡ added prediction residual ⌝ }
+{
+    let mut out = [0u8; 16];
+    for place in 0usize..16 {
+        out[place] = sample(prediction[place], residual[place]);
+    }
+    out
+}
+
+// The samples of a prediction and of sixteen rescaled numbers.
+pub fn samples(prediction: [u8; 16], numbers: [i32; 16]) -> [u8; 16]
+    requires { ⌜ Each 32768 numbers ⌝ }
+    ensures { λ r. ⌜ r ≡ samplesOf prediction numbers ⌝ }
+{
+    added(prediction, transform::inner::inverse_block(numbers))
+}
