@@ -1,0 +1,4 @@
+pub mod Carried
+pub mod Missing
+pub mod Outcome
+pub mod Unique
