@@ -2,3 +2,4 @@ pub mod Carried
 pub mod Missing
 pub mod Outcome
 pub mod Unique
+pub mod Witness

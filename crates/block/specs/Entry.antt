@@ -18,13 +18,8 @@ use Rattle.block.specs.declared.inner.Block.{Block}
 -- LENGTH: thirteen neighbours, sixteen samples, levels and rebuilt samples; then FLAGS, then QUANTIZER
 abbrev pub codeTests : (qp flags : ℕ) (neighbours samples : List ℕ) (levels : List ℤ) (rebuilt : List ℕ) → List (Test Refusal)
 codeTests qp flags neighbours samples levels rebuilt =
-    lengthTest 13 neighbours
-    ∷ lengthTest 16 samples
-    ∷ lengthTest 16 levels
-    ∷ lengthTest 16 rebuilt
-    ∷ flagsTest flags
-    ∷ quantizerTest qp
-    ∷ []
+    lengthTest 13 neighbours ∷ lengthTest 16 samples ∷ lengthTest 16 levels ∷ lengthTest 16 rebuilt
+    ∷ flagsTest flags ∷ quantizerTest qp ∷ []
 
 -- what an answer says, and the mode and the SAD that come back (nothing where it refuses)
 abbrev pub saidCoded : Coded → Verdict Refusal
