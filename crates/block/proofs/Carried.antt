@@ -1,0 +1,71 @@
+-- What a block by value carries: the bounds that its numbers need on the way, and that raster levels rescale as those in zigzag order do.
+-- Assumes nothing.
+use mathlib.Core.Path.{_≡_, refl, sym, ap, subst, _∙_}
+use mathlib.Core.List.{List}
+use Prim.Native.Nat.{ℕ, _≤_}
+use lib.IntN.{ℤ, pos, _-ℤ_}
+use lib.ListN.{length}
+use Rattle.lists.proofs.Tab.{length-tab}
+use Rattle.whole.specs.Bounds.{Each}
+use Rattle.whole.proofs.Lists.{each-less}
+use Rattle.quantizer.specs.Range.{highest}
+use Rattle.predict.specs.Samples.{Round}
+use Rattle.predict.specs.Choice.{at, chosen}
+use Rattle.predict.specs.Entry.{Picks, bestSamples}
+use Rattle.predict.specs.declared.inner.Choice.{Choice}
+use Rattle.residual.specs.Levels.{quantized, levelsOf}
+use Rattle.residual.specs.Order.{inZigzag}
+use Rattle.residual.specs.Rescale.{rescaled}
+use Rattle.residual.specs.Rebuild.{added, samplesOf, numbersOf}
+use Rattle.residual.proofs.Order.{length-zigzag, places-again, zigzag-each}
+use Rattle.residual.proofs.Own.{own-levels-in-range}
+use Rattle.block.specs.Block.{residualOf, predictionOf}
+use Rattle.block.specs.Entry.{Carries}
+use Rattle.block.specs.declared.inner.Block.{Block}
+
+module _ (qp : ℕ) (x : List ℤ) where
+  length-quantized : length (quantized qp x) ≡ 16
+  unfolding quantized
+  length-quantized = length-tab 16 _
+
+  -- what the levels in zigzag order rescale to is what those in raster order rescale to
+  pub same-numbers : numbersOf qp (levelsOf qp x) ≡ rescaled qp (quantized qp x)
+  same-numbers = ap (rescaled qp) (places-again (quantized qp x) length-quantized)
+
+  module _ (legal : qp ≤ highest) (small : Each 255 x) where
+    pub levels-small : Each 32768 (quantized qp x)
+    levels-small =
+        each-less 1632 32768 (quantized qp x)
+        (zigzag-each 1632 (quantized qp x) length-quantized (own-levels-in-range qp legal x small .levels)) tt
+
+    pub numbers-small : Each 32768 (rescaled qp (quantized qp x))
+    numbers-small =
+        each-less 25978 32768 (rescaled qp (quantized qp x))
+        (subst (Each 25978) same-numbers (own-levels-in-range qp legal x small .numbers)) tt
+
+-- what the code computes in turn, put together: residual x, raster levels l, rescaled numbers d, zigzag levels z, samples s
+pub carried : (qp : ℕ) (round : Round) (block : List ℕ) (c : Choice) {x l d z : List ℤ} {s : List ℕ}
+    → Picks round block c
+    → x ≡ residualOf block (c .prediction)
+    → l ≡ quantized qp x
+    → d ≡ rescaled qp l
+    → z ≡ inZigzag l
+    → s ≡ samplesOf (c .prediction) d
+    → Carries qp round block (record { mode = c .mode; sad = c .sad; levels = z; rebuilt = s })
+carried qp round block c {x} {l} {d} {z} {s} picks is-x is-l is-d is-z is-s =
+    let p : c .prediction ≡ predictionOf round block = picks .prediction ∙ ap (bestSamples round) (picks .best) in
+    let y : x ≡ residualOf block (predictionOf round block) = is-x ∙ ap (residualOf block) p in
+    let n = is-d ∙ ap (rescaled qp) is-l ∙ sym (same-numbers qp x) ∙ ap (λ (r : List ℤ). numbersOf qp (levelsOf qp r)) y in
+    record {
+      best = picks .best;
+      levels = is-z ∙ ap inZigzag (is-l ∙ ap (quantized qp) y);
+      rebuilt = is-s ∙ (λ i. samplesOf (p i) (n i));
+    }
+
+-- sixteen of each
+length-samples : (prediction : List ℕ) (d : List ℤ) → length (samplesOf prediction d) ≡ 16
+unfolding samplesOf added
+length-samples prediction d = length-tab 16 _
+
+pub carried-long : {qp : ℕ} {round : Round} {block : List ℕ} {x : Block} → Carries qp round block x → (length (x .levels) ≡ 16) × (length (x .rebuilt) ≡ 16)
+carried-long c = (ap length (c .levels) ∙ length-zigzag _, ap length (c .rebuilt) ∙ length-samples _ _)

@@ -1,0 +1,5 @@
+pub mod Carried
+pub mod Missing
+pub mod Outcome
+pub mod Unique
+pub mod Witness

@@ -1,0 +1,61 @@
+-- What is coded of a block depends on the samples that are present, and a decoder can follow.
+--     missing-has-no-value     neighbours that agree wherever a sample is present give the same answer, mode, SAD, levels and rebuilt samples
+--     rebuilds                 what is rebuilt is what `rebuild` gives from the prediction of that mode and those levels
+-- Assumes nothing.
+use mathlib.Core.Path.{_≡_, refl, sym, ap, _∙_}
+use mathlib.Core.List.{List}
+use Prim.Native.Nat.{ℕ, _≤_}
+use lib.IntN.{ℤ}
+use lib.ListN.{length}
+use Rattle.refusal.proofs.Same.{says-same}
+use Rattle.predict.specs.Samples.{mask}
+use Rattle.predict.proofs.Missing.{AgreeWherePresent, same-mask}
+use Rattle.block.specs.Entry.{Codes}
+use Rattle.block.specs.declared.Coded.{Coded}
+use Rattle.block.proofs.Outcome.{same-coded}
+use mathlib.Core.Bool.{true}
+use Rattle.lists.specs.Chain.{Verdict, pass, chain, written}
+use Rattle.lists.proofs.Chain.{chain-exactly-if}
+use borrow.Author.Tests.{leb-true}
+use Rattle.whole.specs.Bounds.{Each}
+use Rattle.quantizer.specs.Range.{highest}
+use Rattle.refusal.specs.declared.Refusal.{Refusal}
+use Rattle.refusal.specs.declared.Answer.the-variants.{Done}
+use Rattle.refusal.proofs.Same.{says}
+use Rattle.predict.specs.Rules as rules
+use Rattle.predict.specs.Choice.{at, nothing, chosen}
+use Rattle.predict.specs.Entry.{bestSamples}
+use Rattle.residual.specs.Entry.{Rebuilds, rebuildTests}
+use Rattle.residual.specs.Levels.{levelsOf}
+use Rattle.residual.specs.Rebuild.{samplesOf, numbersOf}
+use Rattle.residual.proofs.Own.{own-levels-pass}
+use Rattle.block.specs.Block.{residualOf, predictionOf, codedLevels, codedSamples}
+use Rattle.block.specs.Entry.{codeTests}
+use Rattle.block.specs.declared.Coded.the-variants.{Mode}
+
+pub missing-has-no-value : (qp f : ℕ) (n n′ s : List ℕ) (l : List ℤ) (o : List ℕ) → AgreeWherePresent f n n′
+    → (r r′ : Coded) (l₁ l₂ : List ℤ) (o₁ o₂ : List ℕ) → Codes qp f n s l o r l₁ o₁ → Codes qp f n′ s l o r′ l₂ o₂ → (r ≡ r′) × (l₁ ≡ l₂) × (o₁ ≡ o₂)
+missing-has-no-value qp f n n′ s l o g r r′ l₁ l₂ o₁ o₂ p q =
+    let k = g .long in
+    let m = same-mask f n n′ g in (
+      same-coded r r′ (says-same (p .says) ∙ rw k (sym (says-same (q .says)))) (p .best ∙ rw (k, m) (sym (q .best))),
+      p .levels ∙ rw (k, m) (sym (q .levels)),
+      p .rebuilt ∙ rw (k, m) (sym (q .rebuilt)),
+    )
+
+-- for a prediction of sixteen samples that differ from the block's by 255 at the most, as bytes do
+pub rebuilds : (qp f : ℕ) (n s : List ℕ) (l : List ℤ) (o : List ℕ) (m sad : ℕ) (l′ : List ℤ) (o′ : List ℕ) → Codes qp f n s l o (Mode m sad) l′ o′
+    → Each 255 (residualOf s (predictionOf (mask n f) s))
+    → length (predictionOf (mask n f) s) ≡ 16
+    → (out : List ℕ) → length out ≡ 16 → Rebuilds qp (rules.samplesOf (rules.predicted (mask n f) m)) l′ out Done o′
+rebuilds qp f n s l o m sad l′ o′ p small long out room =
+    let v : chain (codeTests qp f n s l o) ≡ pass = sym (says-same (p .says)) in
+    let all = chain-exactly-if (codeTests qp f n s l o) .passes .0 v in
+    let legal = leb-true qp highest (all .1 .1 .1 .1 .1 .0) in
+    let best : at m sad ≡ chosen (mask n f) s = p .best ∙ rw v in
+    let y : predictionOf (mask n f) s ≡ rules.samplesOf (rules.predicted (mask n f) m) = ap (bestSamples (mask n f)) (sym best) in
+    let is-l : l′ ≡ codedLevels qp (mask n f) s = p .levels ∙ rw v in
+    let is-o : o′ ≡ codedSamples qp (mask n f) s = p .rebuilt ∙ rw v in
+    let e : chain (rebuildTests qp (rules.samplesOf (rules.predicted (mask n f) m)) l′ out) ≡ pass =
+    rw (sym y, is-l) (own-levels-pass qp legal (residualOf s (predictionOf (mask n f) s)) small (predictionOf (mask n f) s) out long room) in
+    record { says = says (sym e); wrote = simp e (is-o ∙ (λ i. samplesOf (y i) (numbersOf qp (sym is-l i)))) }
