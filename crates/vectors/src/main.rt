@@ -1,7 +1,9 @@
 // Runs vectors through the entry points and prints a line a group. `.ci/run` holds what it prints to the file `stdout`.
+mod predictions;
 mod print;
 mod quantizers;
 
 fn main() {
     quantizers::run();
+    predictions::run();
 }
