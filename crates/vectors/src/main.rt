@@ -2,8 +2,10 @@
 mod predictions;
 mod print;
 mod quantizers;
+mod transforms;
 
 fn main() {
     quantizers::run();
     predictions::run();
+    transforms::run();
 }
