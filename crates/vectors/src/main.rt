@@ -2,10 +2,12 @@
 mod predictions;
 mod print;
 mod quantizers;
+mod residuals;
 mod transforms;
 
 fn main() {
     quantizers::run();
     predictions::run();
     transforms::run();
+    residuals::run();
 }
