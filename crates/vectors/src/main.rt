@@ -2,6 +2,7 @@
 mod predictions;
 mod print;
 mod quantizers;
+mod records;
 mod residuals;
 mod transforms;
 
@@ -10,4 +11,5 @@ fn main() {
     predictions::run();
     transforms::run();
     residuals::run();
+    records::run();
 }
