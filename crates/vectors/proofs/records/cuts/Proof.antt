@@ -1,0 +1,58 @@
+-- `vectors::records::cuts` is safe and ends. Assumes nothing.
+use Prim.Native.Nat.{_≤_, _-_}
+use borrow.Author.Needs.{needs}
+use Rattle.vectors.proofs.records.cuts.Statement.{statement}
+use Rattle.vectors.proofs.records.cuts.Tie as tie
+
+abbrev Inv-loop : tie.InvT-loop
+Inv-loop n₀ t3 n = n ≤ 10
+
+abbrev μ-loop : tie.MeasureT-loop
+μ-loop n₀ t3 n = 10 - n
+
+slice-aggregate-words : tie.Need-slice-aggregate-words Inv-loop μ-loop
+slice-aggregate-words c = search needs
+
+words-requires : tie.Need-words-requires Inv-loop μ-loop
+words-requires c κs = search needs
+
+loop-holds : tie.Need-loop-holds Inv-loop μ-loop
+loop-holds c = search needs
+
+cut-requires : tie.Need-cut-requires Inv-loop μ-loop
+cut-requires c κs = search needs
+
+add-n : tie.Need-add-n Inv-loop μ-loop
+add-n c = search needs
+
+loop-less : tie.Need-loop-less Inv-loop μ-loop
+loop-less c = search needs
+
+loop-again : tie.Need-loop-again Inv-loop μ-loop
+loop-again c = search needs
+
+slice-aggregate-words-2 : tie.Need-slice-aggregate-words-2 Inv-loop μ-loop
+slice-aggregate-words-2 c = search needs
+
+words-requires-2 : tie.Need-words-requires-2 Inv-loop μ-loop
+words-requires-2 c κs = search needs
+
+returns : tie.Need-returns Inv-loop μ-loop
+returns c = search needs
+
+pub cuts-spec : {M : Type 1} → statement M
+cuts-spec =
+    tie.close
+    (tie.spec
+    Inv-loop
+    μ-loop
+    slice-aggregate-words
+    words-requires
+    loop-holds
+    cut-requires
+    add-n
+    loop-less
+    loop-again
+    slice-aggregate-words-2
+    words-requires-2
+    returns)
