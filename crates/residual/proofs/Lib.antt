@@ -1,4 +1,5 @@
 pub mod Entry
+pub mod Measured
 pub mod Order
 pub mod Own
 pub mod Quantize

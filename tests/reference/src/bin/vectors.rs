@@ -1,0 +1,327 @@
+//! Writes test vectors: inputs with what the reference answers.
+//!
+//!     vectors BLOCK_FILE [DC_FILE]
+//!
+//! The output is the same on every run. The files have no head; numbers of
+//! several bytes are high byte first, and negative ones in two's complement.
+//! "Number, place" is a refusal, or 0, 0 on success. What a refused call would
+//! have answered is zeros.
+//!
+//! # BLOCK_FILE: 2747 records of 121 bytes
+//!
+//! | bytes | what |
+//! |---|---|
+//! | 0 | QP |
+//! | 1 | flags |
+//! | 2 | mode |
+//! | 3..16 | neighbours: M, A to H, I to L |
+//! | 16..32 | samples, raster order |
+//! | 32, 33 | `predict` (neighbours, flags, mode): number, place |
+//! | 34..50 | its prediction |
+//! | 50, 51 | `code_block` (QP, flags, neighbours, samples): number, place |
+//! | 52 | its mode |
+//! | 53..55 | its SAD |
+//! | 55..87 | its 16 levels in zigzag order, signed 16 bits each |
+//! | 87..103 | its rebuilt samples |
+//! | 103, 104 | `rebuild` (QP, bytes 34..50, levels 55..87): number, place |
+//! | 105..121 | its samples |
+//!
+//! Where `predict` or `code_block` refused, `rebuild` is not called and its
+//! number is 255.
+//!
+//! Order: for each mode 0 to 9, each flags byte 0 to 16, each QP of 0, 5, 6,
+//! 17, 28, 29, 44, 51, a random block and then an extreme one (samples and
+//! neighbours only 0 or 255). Then random blocks for each QP of 51, 52, 255,
+//! each flags byte of 15, 16, 255, each mode of 2, 9, 255.
+//!
+//! # DC_FILE: 212 luma records, 212 chroma records, 1431 quantizer records
+//!
+//! A luma record has 261 bytes, with n = 16; a chroma record 69, with n = 4.
+//! DC values, levels and values have signed 32 bits each.
+//!
+//! | bytes | what |
+//! |---|---|
+//! | 1 | QP |
+//! | 4n | DC values in raster order |
+//! | 2 | `luma_dc_levels` or `chroma_dc_levels` of these: number, place |
+//! | 4n | its levels (luma: zigzag order) |
+//! | 4n | levels (luma: zigzag order) |
+//! | 2 | `luma_dc_values` or `chroma_dc_values` of these: number, place |
+//! | 4n | its values in raster order |
+//!
+//! Order: for each QP 0 to 52 four records. First random DC values and second
+//! DC values of -4080 or 4080 only; in both the levels lent to the way back are
+//! the record's own. Third random DC values with one of them just out of
+//! range, and random levels of 16 bits or fewer. Fourth the same kinds of
+//! numbers, of which about one in 16 is any 32-bit number.
+//!
+//! A quantizer record has 5 bytes: QP, offset (signed), `chroma_quantizer` of
+//! these: number, place, quantizer. Order: for each QP 0 to 52 each offset -13
+//! to 13.
+
+use reference::{
+    chroma_dc_levels, chroma_dc_values, chroma_quantizer, code_block, luma_dc_levels,
+    luma_dc_values, predict, rebuild, Refusal,
+};
+use std::process::ExitCode;
+
+const BLOCK_RECORD: usize = 121;
+
+fn main() -> ExitCode {
+    let arguments: Vec<String> = std::env::args().skip(1).collect();
+    if !(1..=2).contains(&arguments.len()) {
+        eprintln!("usage: vectors BLOCK_FILE [DC_FILE]");
+        return ExitCode::from(2);
+    }
+    let makers: [fn() -> Vec<u8>; 2] = [block_vectors, dc_vectors];
+    for (path, vectors) in arguments.iter().zip(makers) {
+        if let Err(error) = std::fs::write(path, vectors()) {
+            eprintln!("{path}: {error}");
+            return ExitCode::FAILURE;
+        }
+    }
+    ExitCode::SUCCESS
+}
+
+/// The splitmix64 generator, so that the files depend on nothing else.
+struct Random(u64);
+
+impl Random {
+    fn next(&mut self) -> u64 {
+        self.0 = self.0.wrapping_add(0x9E37_79B9_7F4A_7C15);
+        let mut z = self.0;
+        z = (z ^ (z >> 30)).wrapping_mul(0xBF58_476D_1CE4_E5B9);
+        z = (z ^ (z >> 27)).wrapping_mul(0x94D0_49BB_1331_11EB);
+        z ^ (z >> 31)
+    }
+
+    /// A number from `low` to `high`.
+    fn between(&mut self, low: i32, high: i32) -> i32 {
+        let count = (i64::from(high) - i64::from(low) + 1) as u64;
+        (i64::from(low) + (self.next() % count) as i64) as i32
+    }
+
+    fn one_of<T: Copy>(&mut self, choices: &[T]) -> T {
+        choices[self.between(0, choices.len() as i32 - 1) as usize]
+    }
+}
+
+struct Surroundings {
+    neighbours: [u8; 13],
+    samples: [u8; 16],
+}
+
+impl Surroundings {
+    /// Samples within a random span: narrow ones give ties between modes and
+    /// small levels, wide ones large levels.
+    fn random(random: &mut Random) -> Surroundings {
+        let span = random.one_of(&[1, 3, 15, 63, 255]);
+        let low = random.between(0, 255 - span);
+        Surroundings::of(|| random.between(low, low + span) as u8)
+    }
+
+    fn extreme(random: &mut Random) -> Surroundings {
+        Surroundings::of(|| random.one_of(&[0, 255]))
+    }
+
+    fn of(mut sample: impl FnMut() -> u8) -> Surroundings {
+        Surroundings {
+            neighbours: std::array::from_fn(|_| sample()),
+            samples: std::array::from_fn(|_| sample()),
+        }
+    }
+}
+
+fn block_vectors() -> Vec<u8> {
+    let mut random = Random(1);
+    let mut file = Vec::new();
+    for mode in 0..=9 {
+        for flags in 0..=16 {
+            for qp in [0, 5, 6, 17, 28, 29, 44, 51] {
+                let block = Surroundings::random(&mut random);
+                file.extend(block_record(qp, flags, mode, &block));
+                let block = Surroundings::extreme(&mut random);
+                file.extend(block_record(qp, flags, mode, &block));
+            }
+        }
+    }
+    for qp in [51, 52, 255] {
+        for flags in [15, 16, 255] {
+            for mode in [2, 9, 255] {
+                let block = Surroundings::random(&mut random);
+                file.extend(block_record(qp, flags, mode, &block));
+            }
+        }
+    }
+    file
+}
+
+/// Number and place as two bytes; all places of block and DC calls fit.
+fn outcome<T>(result: &Result<T, Refusal>) -> [u8; 2] {
+    match result {
+        Ok(_) => [0, 0],
+        Err(refusal) => [
+            refusal.number,
+            u8::try_from(refusal.place).expect("a place inside a block"),
+        ],
+    }
+}
+
+fn block_record(qp: u8, flags: u8, mode: u8, block: &Surroundings) -> Vec<u8> {
+    let Surroundings {
+        neighbours,
+        samples,
+    } = block;
+    let mut record = vec![qp, flags, mode];
+    record.extend(neighbours);
+    record.extend(samples);
+
+    let mut prediction = [0; 16];
+    let predicted = predict(neighbours, flags, mode, &mut prediction);
+    record.extend(outcome(&predicted));
+    record.extend(prediction);
+
+    let mut levels = [0; 16];
+    let mut rebuilt = [0; 16];
+    let coded = code_block(qp, flags, neighbours, samples, &mut levels, &mut rebuilt);
+    record.extend(outcome(&coded));
+    let (chosen, sad) = coded.map_or((0, 0), |choice| (choice.mode as u8, choice.sad));
+    record.push(chosen);
+    record.extend((sad as u16).to_be_bytes());
+    for level in levels {
+        let level = i16::try_from(level).expect("a coder's level has 16 bits");
+        record.extend(level.to_be_bytes());
+    }
+    record.extend(rebuilt);
+
+    let mut out = [0; 16];
+    if predicted.is_ok() && coded.is_ok() {
+        record.extend(outcome(&rebuild(qp, &prediction, &levels, &mut out)));
+    } else {
+        record.extend([255, 0]);
+    }
+    record.extend(out);
+    assert_eq!(record.len(), BLOCK_RECORD);
+    record
+}
+
+fn dc_vectors() -> Vec<u8> {
+    let mut random = Random(2);
+    let mut file = Vec::new();
+    for qp in 0..=52 {
+        for case in 0..4 {
+            file.extend(dc_record::<16>(
+                qp,
+                case,
+                &mut random,
+                luma_dc_levels,
+                luma_dc_values,
+            ));
+        }
+    }
+    for qp in 0..=52 {
+        for case in 0..4 {
+            file.extend(dc_record::<4>(
+                qp,
+                case,
+                &mut random,
+                chroma_dc_levels,
+                chroma_dc_values,
+            ));
+        }
+    }
+    for qp in 0..=52 {
+        for offset in -13..=13_i8 {
+            let result = chroma_quantizer(qp, i32::from(offset));
+            file.extend([qp, offset as u8]);
+            file.extend(outcome(&result));
+            file.push(result.unwrap_or(0));
+        }
+    }
+    file
+}
+
+type DcEntry = fn(u8, &[i32], &mut [i32]) -> Result<(), Refusal>;
+
+fn dc_record<const N: usize>(
+    qp: u8,
+    case: u32,
+    random: &mut Random,
+    to_levels: DcEntry,
+    to_values: DcEntry,
+) -> Vec<u8> {
+    let numbers = |of: &[i32; N]| of.map(i32::to_be_bytes).concat();
+
+    let mut dc: [i32; N] = std::array::from_fn(|_| match case {
+        0 | 2 => random.between(-4080, 4080),
+        1 => random.one_of(&[-4080, 4080]),
+        _ => match random.between(0, 15) {
+            0 => random.between(i32::MIN, i32::MAX),
+            _ => random.between(-4080, 4080),
+        },
+    });
+    if case == 2 {
+        let place = random.between(0, N as i32 - 1) as usize;
+        dc[place] = random.one_of(&[-4081, 4081]);
+    }
+    let mut own = [0; N];
+    let result = to_levels(qp, &dc, &mut own);
+    let mut record = vec![qp];
+    record.extend(numbers(&dc));
+    record.extend(outcome(&result));
+    record.extend(numbers(&own));
+
+    // Few bits keep the values in range at a high QP, many leave it.
+    let bits = random.between(0, 15);
+    let levels: [i32; N] = std::array::from_fn(|index| match case {
+        0 | 1 => own[index],
+        _ => match random.between(0, 15) {
+            0 if case == 3 => random.between(i32::MIN, i32::MAX),
+            _ => random.between(-1 << bits, (1 << bits) - 1),
+        },
+    });
+    let mut values = [0; N];
+    let result = to_values(qp, &levels, &mut values);
+    record.extend(numbers(&levels));
+    record.extend(outcome(&result));
+    record.extend(numbers(&values));
+    record
+}
+
+#[cfg(test)]
+mod tests {
+    use super::*;
+
+    #[test]
+    fn files_have_the_stated_records() {
+        assert_eq!(block_vectors().len(), 2747 * BLOCK_RECORD);
+        assert_eq!(dc_vectors().len(), 212 * 261 + 212 * 69 + 1431 * 5);
+    }
+
+    #[test]
+    fn a_record_by_hand() {
+        // The paper's example for `blockprint`, with the DC mode asked for.
+        let block = Surroundings {
+            neighbours: [77; 13],
+            samples: [138; 16],
+        };
+        let record = block_record(28, 0, 2, &block);
+        let mut expected = vec![28, 0, 2];
+        expected.extend([77; 13]);
+        expected.extend([138; 16]);
+        expected.extend([0, 0]);
+        expected.extend([128; 16]);
+        expected.extend([0, 0, 2, 0, 160, 0, 2]);
+        expected.extend([0; 30]);
+        expected.extend([136; 16]);
+        expected.extend([0, 0]);
+        expected.extend([136; 16]);
+        assert_eq!(record, expected);
+
+        // A mode whose neighbours are missing: `code_block` still answers.
+        let refused = block_record(28, 0, 0, &block);
+        assert_eq!(refused[32..50], [[3, 0].as_slice(), &[0; 16]].concat());
+        assert_eq!(refused[50..103], expected[50..103]);
+        assert_eq!(refused[103..], [[255, 0].as_slice(), &[0; 16]].concat());
+    }
+}

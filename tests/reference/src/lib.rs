@@ -1,0 +1,22 @@
+//! An independent, plain Rust implementation of the block half of
+//! Fleecebutton, written from document 01 and from ITU-T H.264 (clauses 8.3.1
+//! and 8.5), and not from the Rattle code it is compared with.
+//!
+//! Every entry point takes any value of its argument types. It runs its tests
+//! in the order of document 01's table of refusals, and writes to its outputs
+//! only after the last of them has passed.
+
+mod block;
+mod dc;
+mod neighbours;
+mod predict;
+mod quantizer;
+pub mod record;
+mod refusal;
+mod transform;
+
+pub use block::{code_block, forward, levels, rebuild, rebuild_with_dc};
+pub use dc::{chroma_dc_levels, chroma_dc_values, luma_dc_levels, luma_dc_values};
+pub use predict::{choose, predict, Choice, Mode};
+pub use quantizer::{chroma_quantizer, Quantizer};
+pub use refusal::Refusal;
