@@ -1,5 +1,5 @@
 -- Every piece of the table is what is measured: by evaluation of the definitions. Assumes nothing.
-use mathlib.Core.Path.{_≡_, refl}
+use mathlib.Core.Path.{refl}
 use Rattle.lists.specs.First.{first}
 use Rattle.lists.specs.Tab.{tab, grid}
 use Rattle.whole.specs.Clip.{clip}

@@ -9,7 +9,7 @@ use Rattle.lists.specs.Chain.{Verdict, chain}
 use Rattle.refusal.specs.Number.{number, place}
 use Rattle.refusal.specs.declared.Refusal.{Refusal}
 use Rattle.quantizer.specs.Range.{tests, periodOf}
-use Rattle.quantizer.specs.Chroma.{chromaOf, chromaTests}
+use Rattle.quantizer.specs.Chroma.{chromaOf}
 use Rattle.transform.specs.Forward.{forward}
 use Rattle.transform.specs.Inverse.{inverse}
 use Rattle.predict.specs.Samples.{mask}

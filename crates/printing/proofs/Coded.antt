@@ -13,7 +13,7 @@ use Rattle.refusal.specs.Number.{numberOf, placeOf}
 use Rattle.refusal.specs.declared.Refusal.{Refusal}
 use Rattle.refusal.proofs.Same.{says-same}
 use Rattle.predict.specs.Samples.{mask}
-use Rattle.predict.specs.Choice.{Best, at, nothing, chosen}
+use Rattle.predict.specs.Choice.{at, nothing, chosen}
 use Rattle.block.specs.Block.{codedLevels, codedSamples}
 use Rattle.block.specs.Entry.{codeTests, saidCoded, bestCoded, Codes}
 use Rattle.block.specs.declared.Coded.{Coded}

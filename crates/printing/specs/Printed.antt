@@ -1,6 +1,5 @@
 -- What `blockprint` prints (01, "Measured pieces"): "reads 31 bytes: QP, flags, 13 neighbours, 16 samples in raster order".
 -- Assumes nothing.
-use mathlib.Core.Path.{_≡_}
 use mathlib.Core.Bool.{cond}
 use mathlib.Core.List.{List, [], _∷_, _++_}
 use Prim.Native.Nat.{ℕ, _≤_}

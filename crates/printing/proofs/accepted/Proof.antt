@@ -1,10 +1,8 @@
 -- `printing::accepted` meets its contract: the word, mode and SAD, then the two lines. Assumes nothing.
-use mathlib.Core.Path.{subst}
-use mathlib.Core.List.{List, []}
-use Prim.Native.Nat.{ℕ, _≤_}
+use mathlib.Core.List.{[]}
+use Prim.Native.Nat.{_≤_}
 use native.Mathlib.Omega.{arith}
 use borrow.Author.Needs.{needs}
-use Rattle.printing.specs.Text.{Written}
 use Rattle.printing.proofs.Adding.{adds-more}
 use Rattle.printing.proofs.accepted.Statement.{statement}
 use Rattle.printing.proofs.accepted.Tie as tie

@@ -1,10 +1,10 @@
 -- `printing::refused` meets its contract: the word, the number and the place. Assumes nothing.
-use mathlib.Core.Path.{ap, subst, _∙_}
-use mathlib.Core.List.{List, [], _∷_, _++_}
+use mathlib.Core.Path.{subst}
+use mathlib.Core.List.{List, []}
 use Prim.Native.Nat.{ℕ, _≤_}
 use native.Mathlib.Omega.{arith}
 use borrow.Author.Needs.{needs}
-use Rattle.printing.specs.Text.{decimalOf, Written}
+use Rattle.printing.specs.Text.{Written}
 use Rattle.printing.specs.Printed.{refusedText}
 use Rattle.printing.proofs.Adding.{adds-more}
 use Rattle.printing.proofs.refused.Statement.{statement}

@@ -1,5 +1,4 @@
 -- `printing::with_number` meets its contract: a loop that adds a digit, where it stands, in each turn. Assumes nothing.
-use mathlib.Core.Path.{_≡_}
 use Prim.Native.Nat.{ℕ, _-_, _≤_, _<_}
 use native.Mathlib.Omega.{arith}
 use borrow.Author.Needs.{needs}
