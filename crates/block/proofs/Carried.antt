@@ -1,16 +1,15 @@
 -- What a block by value carries: the bounds that its numbers need on the way, and that raster levels rescale as those in zigzag order do.
 -- Assumes nothing.
-use mathlib.Core.Path.{_≡_, refl, sym, ap, subst, _∙_}
+use mathlib.Core.Path.{_≡_, sym, ap, subst, _∙_}
 use mathlib.Core.List.{List}
 use Prim.Native.Nat.{ℕ, _≤_}
-use lib.IntN.{ℤ, pos, _-ℤ_}
+use lib.IntN.{ℤ}
 use lib.ListN.{length}
 use Rattle.lists.proofs.Tab.{length-tab}
 use Rattle.whole.specs.Bounds.{Each}
 use Rattle.whole.proofs.Lists.{each-less}
 use Rattle.quantizer.specs.Range.{highest}
 use Rattle.predict.specs.Samples.{Round}
-use Rattle.predict.specs.Choice.{at, chosen}
 use Rattle.predict.specs.Entry.{Picks, bestSamples}
 use Rattle.predict.specs.declared.inner.Choice.{Choice}
 use Rattle.residual.specs.Levels.{quantized, levelsOf}

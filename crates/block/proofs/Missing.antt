@@ -2,35 +2,30 @@
 --     missing-has-no-value     neighbours that agree wherever a sample is present give the same answer, mode, SAD, levels and rebuilt samples
 --     rebuilds                 what is rebuilt is what `rebuild` gives from the prediction of that mode and those levels
 -- Assumes nothing.
-use mathlib.Core.Path.{_≡_, refl, sym, ap, _∙_}
+use mathlib.Core.Path.{_≡_, sym, ap, _∙_}
 use mathlib.Core.List.{List}
-use Prim.Native.Nat.{ℕ, _≤_}
+use Prim.Native.Nat.{ℕ}
+use borrow.Author.Tests.{leb-true}
 use lib.IntN.{ℤ}
 use lib.ListN.{length}
-use Rattle.refusal.proofs.Same.{says-same}
+use Rattle.lists.specs.Chain.{pass, chain}
+use Rattle.lists.proofs.Chain.{chain-exactly-if}
+use Rattle.whole.specs.Bounds.{Each}
+use Rattle.refusal.proofs.Same.{says-same, says}
+use Rattle.refusal.specs.declared.Answer.the-variants.{Done}
+use Rattle.quantizer.specs.Range.{highest}
 use Rattle.predict.specs.Samples.{mask}
 use Rattle.predict.proofs.Missing.{AgreeWherePresent, same-mask}
-use Rattle.block.specs.Entry.{Codes}
-use Rattle.block.specs.declared.Coded.{Coded}
-use Rattle.block.proofs.Outcome.{same-coded}
-use mathlib.Core.Bool.{true}
-use Rattle.lists.specs.Chain.{Verdict, pass, chain, written}
-use Rattle.lists.proofs.Chain.{chain-exactly-if}
-use borrow.Author.Tests.{leb-true}
-use Rattle.whole.specs.Bounds.{Each}
-use Rattle.quantizer.specs.Range.{highest}
-use Rattle.refusal.specs.declared.Refusal.{Refusal}
-use Rattle.refusal.specs.declared.Answer.the-variants.{Done}
-use Rattle.refusal.proofs.Same.{says}
 use Rattle.predict.specs.Rules as rules
-use Rattle.predict.specs.Choice.{at, nothing, chosen}
+use Rattle.predict.specs.Choice.{at, chosen}
 use Rattle.predict.specs.Entry.{bestSamples}
 use Rattle.residual.specs.Entry.{Rebuilds, rebuildTests}
-use Rattle.residual.specs.Levels.{levelsOf}
 use Rattle.residual.specs.Rebuild.{samplesOf, numbersOf}
 use Rattle.residual.proofs.Own.{own-levels-pass}
+use Rattle.block.specs.Entry.{Codes, codeTests}
+use Rattle.block.specs.declared.Coded.{Coded}
+use Rattle.block.proofs.Outcome.{same-coded}
 use Rattle.block.specs.Block.{residualOf, predictionOf, codedLevels, codedSamples}
-use Rattle.block.specs.Entry.{codeTests}
 use Rattle.block.specs.declared.Coded.the-variants.{Mode}
 
 pub missing-has-no-value : (qp f : ℕ) (n n′ s : List ℕ) (l : List ℤ) (o : List ℕ) → AgreeWherePresent f n n′

@@ -1,6 +1,6 @@
 -- Inputs at which a faulty definition would answer otherwise: what the must-fail edits of specs/ run into. Assumes nothing.
 use mathlib.Core.Path.{_≡_, refl}
-use mathlib.Core.List.{[], _∷_}
+use mathlib.Core.List.{_∷_}
 use lib.IntN.{pos}
 use lib.ListN.{replicate}
 use Rattle.lists.specs.Chain.{chain}

@@ -1,5 +1,4 @@
--- The starred pieces about the DC paths (01, "Measured pieces"), computed from the definitions that the contracts cite.
--- Assumes nothing.
+-- Witnesses of the must-fail edits about the DC paths: their starred pieces (the table of all is in crate `pieces`). Assumes nothing.
 use mathlib.Core.Path.{_≡_, refl}
 use mathlib.Core.List.{_∷_}
 use lib.IntN.{pos}

@@ -1,7 +1,6 @@
 pub mod Area
 pub mod Least
 pub mod Masked
-pub mod Measured
 pub mod Missing
 pub mod Outcome
 pub mod Places

@@ -1,5 +1,5 @@
 pub mod Chroma
-pub mod Measured
 pub mod Range
 pub mod Tables
 pub mod Unique
+pub mod Witness

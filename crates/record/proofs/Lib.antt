@@ -3,8 +3,8 @@ pub mod Bits
 pub mod Forms
 pub mod Heads
 pub mod Levels
-pub mod Measured
 pub mod Modes
 pub mod Sums
 pub mod Unique
 pub mod Walks
+pub mod Witness

@@ -1,8 +1,8 @@
 pub mod Bounds
 pub mod Carried
 pub mod Entry
-pub mod Measured
 pub mod Products
+pub mod Richardson
 pub mod Rows
 pub mod Sides
 pub mod Squares

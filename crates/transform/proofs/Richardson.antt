@@ -1,30 +1,10 @@
--- The measured pieces about the transforms (01, "Measured pieces", those marked *), and the worked block of Richardson's white paper, by evaluation.
--- Assumes nothing.
+-- The worked block of Richardson's H.264 white paper on transform and quantization, at QP 10, by evaluation. Assumes nothing.
 use mathlib.Core.Path.{_≡_, refl}
 use mathlib.Core.List.{List, [], _∷_}
 use lib.IntN.{ℤ, pos, negsuc}
-use lib.ListN.{replicate}
 use Rattle.lists.specs.Tab.{tab}
 use Rattle.transform.specs.Forward.{forward}
 use Rattle.transform.specs.Inverse.{inverse}
-
--- "X all 1: Y(0,0)=16, the rest 0."
-pub all-ones : forward (replicate 16 (pos 1)) ≡ pos 16 ∷ replicate 15 (pos 0)
-unfolding forward tab
-all-ones = refl
-
--- a block with one number at (0,0)
-abbrev pub alone : ℤ → List ℤ
-alone z = z ∷ replicate 15 (pos 0)
-
--- "d(0,0)=32 alone gives residual 1; -32 gives 0; -33 gives -1."
-pub alone-measured : (inverse (alone (pos 32)) ≡ replicate 16 (pos 1))
-    × (inverse (alone (negsuc 31)) ≡ replicate 16 (pos 0))
-    × (inverse (alone (negsuc 32)) ≡ replicate 16 (negsuc 0))
-unfolding inverse tab
-alone-measured = (refl, refl, refl)
-
--- ---- Richardson's block, at QP 10
 
 -- the residuals X
 abbrev pub residual : List ℤ

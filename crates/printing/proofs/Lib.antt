@@ -1,0 +1,3 @@
+pub mod Adding
+pub mod Coded
+pub mod Unique
