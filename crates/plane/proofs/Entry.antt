@@ -1,11 +1,12 @@
 -- What the tests of decoding come to, and when it refuses.
 --     form-broken, form-whole, form-passed     the walk over the records
 --     plane-short, file-short, body-rest       what is tested behind the head
---     head-legal                               what a legal head tells
+--     body-refused, body-done                  what the code leaves behind the head
+--     head-legal, head-refused, decodes-by     what a head tells, and the tests behind it
 --     decode-plane-refuses-exactly-if
 --     decoded-from-any                         start-has-no-value: the plane of a file is the same from any plane at the start
 -- Assumes nothing.
-use mathlib.Core.Path.{_≡_, refl, sym, ap, _∙_}
+use mathlib.Core.Path.{_≡_, refl, sym, ap, subst, _∙_}
 use mathlib.Core.Bool.{Bool, true, false, _&&_}
 use mathlib.Core.List.{List, _∷_}
 use Prim.Native.Nat.{ℕ, _+_, _*_, _<_, _≤_}
@@ -14,16 +15,18 @@ use borrow.Author.Tests.{eq-eqb, ne-eqb, leb-true}
 use lib.Dec.{leb}
 use lib.ListN.{length}
 use Rattle.lists.specs.Chain.{Test, Verdict, pass, stop, chain, written}
-use Rattle.lists.proofs.Chain.{ExactlyIf, chain-exactly-if}
+use Rattle.lists.proofs.Chain.{ExactlyIf, chain-exactly-if, chain-passed, chain-refused}
 use Rattle.lists.proofs.Tab.{length-tab}
 use Rattle.refusal.specs.Number.{said}
 use Rattle.refusal.specs.declared.Answer.{Answer}
+use Rattle.refusal.specs.declared.Answer.the-variants.{Done, Refused}
 use Rattle.refusal.specs.declared.Refusal.{Refusal}
 use Rattle.refusal.specs.declared.Refusal.the-variants as refusal
-use Rattle.refusal.proofs.Same.{says-same, says-exactly-if}
+use Rattle.refusal.proofs.Same.{says, says-same, says-exactly-if}
 use Rattle.record.specs.declared.Fault.{Fault}
 use Rattle.record.specs.declared.Head.{Head}
 use Rattle.record.specs.declared.Head.the-variants.{Legal}
+use Rattle.record.specs.declared.Head.the-variants as head-variants
 use Rattle.record.specs.declared.Walk.{Walk}
 use Rattle.record.specs.declared.Walk.the-variants.{Whole, Broken}
 use Rattle.record.specs.Entry as head
@@ -34,7 +37,7 @@ use Rattle.picture.specs.Order.{Sound}
 use Rattle.picture.specs.Plane.{samplesOf}
 use Rattle.picture.proofs.Start.{start-has-no-value}
 use Rattle.plane.specs.Content.{layoutOf}
-use Rattle.plane.specs.Decode.{countOf, recordIn, came, brokenBy, formTest, contentsTests, bodyTests, layoutIn, decodeTests, Walked, blockFrom, rebuiltFrom, cleared, Decodes}
+use Rattle.plane.specs.Decode.{countOf, recordIn, came, brokenBy, formTest, contentsTests, bodyTests, layoutIn, decodeTests, Walked, blockFrom, rebuiltFrom, cleared, decoded, DecodesBody, Decodes}
 
 module _ (l : Layout) (file : List ℕ) where
   pub form-broken : {fault : Fault} {place : ℕ} → walkOf (countOf l) file 8 ≡ Broken fault place → chain (formTest l file ∷ contentsTests l file) ≡ stop (refusalOf fault place)
@@ -46,6 +49,9 @@ module _ (l : Layout) (file : List ℕ) where
   through : (w : Walk) → came w ≡ true → (end : ℕ) × (w ≡ Whole end)
   through (Whole end) e = (end, refl)
   through (Broken fault place) e = let z : _≡_ {A = ℕ} 0 1 = cc in absurd (omega arith)
+
+  pub walked : {end : ℕ} → length file ≡ 8 + 527 * countOf l → walkOf (countOf l) file 8 ≡ Whole end → Walked l file
+  walked {end} room e = record { room = room; end = end; through = e }
 
   -- what rebuilding asks
   pub form-passed : length file ≡ 8 + 527 * countOf l → chain (formTest l file ∷ contentsTests l file) ≡ pass → Walked l file × (chain (contentsTests l file) ≡ pass)
@@ -64,6 +70,15 @@ module _ (l : Layout) (file : List ℕ) where
 
       pub body-rest : length file ≡ 8 + 527 * countOf l → chain (bodyTests l file plane) ≡ chain (formTest l file ∷ contentsTests l file)
       body-rest h = rw (eq-eqb (length plane) (samplesOf l) long, eq-eqb (length file) (8 + 527 * countOf l) h)
+
+-- ---- what the code leaves behind the head
+
+module _ (l : Layout) (file plane : List ℕ) where
+  pub body-refused : {r : Refusal} → chain (bodyTests l file plane) ≡ stop r → DecodesBody l file plane (Refused r) plane
+  body-refused e = record { says = sym e; wrote = ap (λ (v : Verdict Refusal). written v (decoded l file) plane) (sym e) }
+
+  pub body-done : {after : List ℕ} → chain (bodyTests l file plane) ≡ pass → after ≡ decoded l file → DecodesBody l file plane Done after
+  body-done e q = record { says = sym e; wrote = q ∙ ap (λ (v : Verdict Refusal). written v (decoded l file) plane) (sym e) }
 
 -- ---- the head
 
@@ -92,6 +107,18 @@ head-legal file {h} {width} {height} p e =
     let w : width ≡ widthAt file = sym (ap head.widthOf e) ∙ p .width ∙ ap (λ (x : Verdict Refusal). written x (widthAt file) 0) v in
     let k : height ≡ heightAt file = sym (ap head.heightOf e) ∙ p .height ∙ ap (λ (x : Verdict Refusal). written x (heightAt file) 0) v in
     record { passed = v; wide = w; high = k; sound = rw (w, k) (sound-of (widthAt file) (heightAt file) (a .1 .1 .1 .0)) }
+
+module _ (file before : List ℕ) where
+  pub head-refused : {h : Head} {r : Refusal} → ReadsHead file h → h ≡ head-variants.Refused r → Decodes file before (Refused r) before
+  head-refused {h} {r} p e =
+      let v = chain-refused (headTests file) (bodyTests (layoutIn file) file before) r (sym (says-same (p .says)) ∙ ap head.said e) in
+      record { says = says (sym v); wrote = ap (λ (w : Verdict Refusal). written w (decoded (layoutIn file) file) before) (sym v) }
+
+  pub decodes-by : {width height : ℕ} {r : Answer} {after : List ℕ} → LegalHead file width height → DecodesBody (layoutOf width height) file before r after → Decodes file before r after
+  decodes-by {width} {height} {r} {after} h d =
+      let v = chain-passed (headTests file) (bodyTests (layoutIn file) file before) (h .passed) in
+      let x = subst (λ (l : Layout). DecodesBody l file before r after) (λ i. layoutOf (h .wide i) (h .high i)) d in
+      record { says = says (x .says ∙ sym v); wrote = x .wrote ∙ ap (λ (w : Verdict Refusal). written w (decoded (layoutIn file) file) before) (sym v) }
 
 -- ---- the theorems
 

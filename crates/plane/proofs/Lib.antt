@@ -1,3 +1,4 @@
 pub mod Entry
 pub mod Files
 pub mod Records
+pub mod Unique

@@ -1,67 +1,98 @@
+-- `plane::decode` meets its contract: two lengths, the tests of all records, and then the plane. Assumes nothing.
+use mathlib.Core.Path.{_≡_, sym, ap, _∙_}
+use mathlib.Core.List.{List}
+use Prim.Native.Nat.{ℕ, _*_, _≤_}
+use native.Mathlib.Omega.{arith}
 use borrow.Author.Needs.{needs}
+use lib.ListN.{length}
+use Rattle.refusal.specs.Number.{said}
+use Rattle.lists.specs.Chain.{chain, pass}
+use Rattle.picture.proofs.Plane.{samples-fit}
+use Rattle.plane.specs.Content.{layoutOf}
+use Rattle.plane.specs.Decode.{bodyTests, rebuiltFrom, cleared}
+use Rattle.plane.proofs.Entry.{plane-short, file-short, body-rest, form-passed, body-refused, body-done}
 use Rattle.plane.proofs.decode.Statement.{statement}
 use Rattle.plane.proofs.decode.Tie as tie
-use Rattle.plane.proofs.decode.Reads as reads
-use Rattle.plane.proofs.decode.Lts as lts
-use Rattle.plane.proofs.rebuild.clear.Reads as clear-reads
-use Rattle.plane.proofs.rebuild.rebuild_plane.Reads as rebuild-plane-reads
-use Rattle.plane.proofs.tested.Reads as tested-reads
 
--- src/lib.rt:35:17
+small : (s : tie.Start) → s .args .width * s .args .height ≤ 16384
+small s = omega (arith, samples-fit (s .pre))
+
 mul-count : tie.Need-mul-count
-mul-count c = search needs
+mul-count c = let f = small (c .before .before) in omega arith
 
--- src/lib.rt:36:23
 mul-if1 : tie.Need-mul-if1
-mul-if1 c = search needs
+mul-if1 c = let f = small (c .before .before) in omega arith
 
--- src/lib.rt:37:9
 returns : tie.Need-returns
-returns c = search needs
+returns c =
+    let s = c .before .before .before in
+    body-refused _ (s .args .file .now) (s .args .plane .now) (plane-short _ (s .args .file .now) (s .args .plane .now) (c .if1 .taken))
 
--- src/lib.rt:39:26
 mul-if2 : tie.Need-mul-if2
-mul-if2 c = search needs
+mul-if2 c = let f = small (c .before .before .before) in omega arith
 
--- src/lib.rt:39:22
 add-if2 : tie.Need-add-if2
-add-if2 c = search needs
+add-if2 c = let f = small (c .before .before .before) in omega arith
 
--- src/lib.rt:40:9
 returns-2 : tie.Need-returns-2
-returns-2 c = search needs
+returns-2 c =
+    let E = c .before in
+    let s = E .before .before .before in
+    body-refused _ (s .args .file .now) (s .args .plane .now) (file-short _ (s .args .file .now) (s .args .plane .now) (E .if1 .left) (c .if2 .taken))
 
--- src/lib.rt:42:11
 tested-requires : tie.Need-tested-requires
 tested-requires c κs = search needs
 
--- src/lib.rt:43:25
 enum-known-refusal : tie.Need-enum-known-refusal
 enum-known-refusal c = search needs
 
--- src/lib.rt:45:28
 enum-told : tie.Need-enum-told
 enum-told c = search needs
 
--- src/lib.rt:45:13
 clear-requires : tie.Need-clear-requires
 clear-requires c κs = search needs
 
--- src/lib.rt:46:13
+-- the whole chain comes to what the tests of the records answered
+rest : (c : tie.After-tested)
+    → let s = c .before .before .before .before .before in
+    said (c .tested .result) ≡ chain (bodyTests (layoutOf (s .args .width) (s .args .height)) (s .args .file .now) (s .args .plane .now))
+rest c =
+    let F = c .before in
+    let E = F .before in
+    let s = E .before .before .before in
+    c .tested .ensures ∙ sym (body-rest (layoutOf (s .args .width) (s .args .height)) (s .args .file .now) (s .args .plane .now) (E .if1 .left) (F .if2 .left))
+
 rebuild-plane-requires : tie.Need-rebuild-plane-requires
-rebuild-plane-requires c κs = search needs
+rebuild-plane-requires c κs =
+    let D = c .before .before .before .before .before in
+    let T = D .before .before in
+    let F = T .before in
+    let E = F .before in
+    let s = E .before .before .before in
+    let p = form-passed (layoutOf (s .args .width) (s .args .height)) (s .args .file .now) (F .if2 .left) (sym (T .tested .ensures) ∙ ap said (D .enum-told .given .1)) in
+    ((s .pre, p .0, search needs), p .1)
 
--- src/lib.rt:31:1
 returns-3 : tie.Need-returns-3
-returns-3 c = search needs
+returns-3 c =
+    let R = c .before in
+    let T = R .before .before in
+    let s = T .before .before .before .before .before in
+    body-refused _ (s .args .file .now) (s .args .plane .now) (sym (rest T) ∙ ap said (R .refusal .given .1))
 
--- src/lib.rt:31:1
 same-length : tie.Need-same-length
 same-length c = search needs
 
--- src/lib.rt:31:1
 returns-4 : tie.Need-returns-4
-returns-4 c = search needs
+returns-4 c =
+    let B = c .before .before in
+    let C = B .before .before .before .before in
+    let D = C .before .before in
+    let T = D .before .before in
+    let E = T .before .before in
+    let s = E .before .before .before in
+    let l = layoutOf (s .args .width) (s .args .height) in
+    let start = C .clear .ensures ∙ ap cleared (E .if1 .left) in
+    body-done _ (s .args .file .now) (s .args .plane .now) (sym (rest T) ∙ ap said (D .enum-told .given .1)) (B .rebuild-plane .ensures ∙ ap (rebuiltFrom l (s .args .file .now)) start)
 
 pub decode-spec : {M : Type 1} → statement M
 decode-spec =

@@ -1,43 +1,52 @@
+-- `plane::tested` meets its contract: the walk, and then the content of all records. Assumes nothing.
+use mathlib.Core.Path.{_≡_, sym, ap, _∙_}
+use Prim.Native.Nat.{_*_, _≤_}
+use native.Mathlib.Omega.{arith}
 use borrow.Author.Needs.{needs}
+use Rattle.lists.specs.Chain.{stop}
+use Rattle.picture.proofs.Plane.{samples-fit}
+use Rattle.plane.specs.Content.{layoutOf}
+use Rattle.plane.proofs.Entry.{form-broken, form-whole, walked}
 use Rattle.plane.proofs.tested.Statement.{statement}
 use Rattle.plane.proofs.tested.Tie as tie
-use Rattle.plane.proofs.tested.Reads as reads
-use Rattle.plane.proofs.tested.Lts as lts
-use Rattle.plane.proofs.content.contents.Reads as contents-reads
-use Rattle.record.proofs.inner.refusal.Reads as refusal-reads
-use Rattle.record.proofs.inner.walk.Reads as walk-reads
 
--- src/lib.rt:24:40
+small : (s : tie.Start) → s .args .width * s .args .height ≤ 16384
+small s = omega (arith, samples-fit (s .pre .0))
+
 mul-walk : tie.Need-mul-walk
-mul-walk c = search needs
+mul-walk c = let f = small (c .before) in omega arith
 
--- src/lib.rt:24:11
 walk-requires : tie.Need-walk-requires
 walk-requires c κs = search needs
 
--- src/lib.rt:25:22
 enum-known-fault : tie.Need-enum-known-fault
 enum-known-fault c = search needs
 
--- src/lib.rt:25:55
 refusal-requires : tie.Need-refusal-requires
 refusal-requires c κs = search needs
 
--- src/lib.rt:26:27
 enum-told : tie.Need-enum-told
 enum-told c = search needs
 
--- src/lib.rt:26:27
 contents-requires : tie.Need-contents-requires
-contents-requires c κs = search needs
+contents-requires c κs =
+    let W = c .before .before in
+    let s = W .before .before in
+    (s .pre .0, walked (layoutOf (s .args .width) (s .args .height)) (s .args .file .now) (s .pre .1) (sym (W .walk .ensures) ∙ c .enum-told .given .1))
 
--- src/lib.rt:20:1
 returns : tie.Need-returns
-returns c = search needs
+returns c =
+    let F = c .before .before in
+    let W = F .before .before in
+    let s = W .before .before in
+    ap stop (c .refusal .ensures) ∙ sym (form-broken (layoutOf (s .args .width) (s .args .height)) (s .args .file .now) (sym (W .walk .ensures) ∙ F .fault .given .1))
 
--- src/lib.rt:20:1
 returns-2 : tie.Need-returns-2
-returns-2 c = search needs
+returns-2 c =
+    let T = c .before in
+    let W = T .before .before in
+    let s = W .before .before in
+    c .contents .ensures ∙ sym (form-whole (layoutOf (s .args .width) (s .args .height)) (s .args .file .now) (sym (W .walk .ensures) ∙ T .enum-told .given .1))
 
 pub tested-spec : {M : Type 1} → statement M
 tested-spec =
