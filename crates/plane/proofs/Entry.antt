@@ -4,7 +4,6 @@
 --     body-refused, body-done                  what the code leaves behind the head
 --     head-legal, head-refused, decodes-by     what a head tells, and the tests behind it
 --     decode-plane-refuses-exactly-if
---     decoded-from-any                         start-has-no-value: the plane of a file is the same from any plane at the start
 -- Assumes nothing.
 use mathlib.Core.Path.{_≡_, refl, sym, ap, subst, _∙_}
 use mathlib.Core.Bool.{Bool, true, false, _&&_}
@@ -16,7 +15,6 @@ use lib.Dec.{leb}
 use lib.ListN.{length}
 use Rattle.lists.specs.Chain.{Test, Verdict, pass, stop, chain, written}
 use Rattle.lists.proofs.Chain.{ExactlyIf, chain-exactly-if, chain-passed, chain-refused}
-use Rattle.lists.proofs.Tab.{length-tab}
 use Rattle.refusal.specs.Number.{said}
 use Rattle.refusal.specs.declared.Answer.{Answer}
 use Rattle.refusal.specs.declared.Answer.the-variants.{Done, Refused}
@@ -35,9 +33,8 @@ use Rattle.record.specs.Faults.{refusalOf, walkOf}
 use Rattle.picture.specs.declared.Layout.{Layout}
 use Rattle.picture.specs.Order.{Sound}
 use Rattle.picture.specs.Plane.{samplesOf}
-use Rattle.picture.proofs.Start.{start-has-no-value}
 use Rattle.plane.specs.Content.{layoutOf}
-use Rattle.plane.specs.Decode.{countOf, recordIn, came, brokenBy, formTest, contentsTests, bodyTests, layoutIn, decodeTests, Walked, blockFrom, rebuiltFrom, cleared, decoded, DecodesBody, Decodes}
+use Rattle.plane.specs.Decode.{countOf, came, formTest, contentsTests, bodyTests, layoutIn, decodeTests, Walked, decoded, DecodesBody, Decodes}
 
 module _ (l : Layout) (file : List ℕ) where
   pub form-broken : {fault : Fault} {place : ℕ} → walkOf (countOf l) file 8 ≡ Broken fault place → chain (formTest l file ∷ contentsTests l file) ≡ stop (refusalOf fault place)
@@ -124,9 +121,3 @@ module _ (file before : List ℕ) where
 
 pub decode-plane-refuses-exactly-if : (file before after : List ℕ) (r : Answer) → Decodes file before r after → ExactlyIf (decodeTests file before) (said r)
 decode-plane-refuses-exactly-if file before after r p = says-exactly-if (decodeTests file before) (p .says)
-
--- the zeros of a cleared plane are no value: any other plane of that length gives the same
-pub decoded-from-any : (l : Layout) → 0 < l .width → (file start : List ℕ) → length start ≡ samplesOf l → rebuiltFrom l file start ≡ rebuiltFrom l file (cleared (samplesOf l))
-unfolding rebuiltFrom
-decoded-from-any l some file start e =
-    start-has-no-value (λ m. blockFrom l (recordIn file m) m) l some start (cleared (samplesOf l)) e (length-tab (samplesOf l) (λ k. 0))
