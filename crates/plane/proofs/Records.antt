@@ -99,6 +99,10 @@ module _ (l : Layout) (m : ℕ) (part : List ℕ) where
         let n : (firstMode l m part ≡ 16 → ⊥) = λ e. omega arith in
         simp (le-leb (qpIn part) highest legal, ne-eqb (firstMode l m part) 16 n)
 
+    -- the refusal that the code sends back, of the block that it found
+    pub mode-sent : {b : ℕ} → b ≡ firstMode l m part → b < 16 → stop (refusal.Mode (16 * m + b)) ≡ chain (contentTests l m part)
+    mode-sent {b} e h = ap (λ (k : ℕ). stop (refusal.Mode (16 * m + k))) e ∙ sym (mode-far (omega arith))
+
     module _ (modes : 16 ≤ firstMode l m part) where
       pub range-far : firstRange part < 16 → chain (contentTests l m part) ≡ stop (refusal.Range (16 * m + firstRange part))
       range-far h =

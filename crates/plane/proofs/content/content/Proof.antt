@@ -10,7 +10,7 @@ use Rattle.quantizer.proofs.Range.{built-legal, built-refused}
 use Rattle.record.specs.Records.{qpIn}
 use Rattle.picture.proofs.Plane.{samples-fit}
 use Rattle.plane.specs.Content.{layoutOf, firstMode, firstRange}
-use Rattle.plane.proofs.Records.{quantizer-high, mode-far, range-far, content-fine}
+use Rattle.plane.proofs.Records.{quantizer-high, mode-sent, range-far, content-fine}
 use Rattle.plane.proofs.content.content.Statement.{statement}
 use Rattle.plane.proofs.content.content.Tie as tie
 
@@ -66,8 +66,7 @@ returns-2 c =
     let M = c .before in
     let K = M .before .before in
     let s = start K in
-    ap (λ (b : ℕ). stop (refusal.Mode (16 * s .args .m + b))) (M .first-mode .ensures)
-    ∙ sym (mode-far _ _ (s .args .part .now) (legal K .1) (omega (arith, M .first-mode .ensures, c .if1 .taken)))
+    mode-sent _ _ (s .args .part .now) (legal K .1) (M .first-mode .ensures) (c .if1 .taken)
 
 -- all modes hold
 modes : (c : tie.Else1) → 16 ≤ firstMode (layoutOf (start (c .before .before .before) .args .width) (start (c .before .before .before) .args .height)) (start (c .before .before .before) .args .m) (start (c .before .before .before) .args .part .now)
