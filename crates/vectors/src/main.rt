@@ -1,5 +1,6 @@
 // Runs vectors through the entry points and prints a line a group. `.ci/run` holds what it prints to the file `stdout`.
 mod dc_paths;
+mod planes;
 mod predictions;
 mod print;
 mod quantizers;
@@ -16,4 +17,5 @@ fn main() {
     dc_paths::run();
     records::run();
     recorded::run();
+    planes::run();
 }

@@ -35,7 +35,7 @@ pub(crate) fn run() {
     show(b"recorded blocks, rebuild: ", rebuilt, all);
 }
 
-fn show(name: &[u8], right: usize, all: usize) {
+pub(crate) fn show(name: &[u8], right: usize, all: usize) {
     print::words(name);
     print::number(right);
     print::words(b" of ");
@@ -43,24 +43,29 @@ fn show(name: &[u8], right: usize, all: usize) {
     print::words(b"\n");
 }
 
-fn one_if(right: bool) -> usize
+pub(crate) fn one_if(right: bool) -> usize
     ensures { λ r. ⌜ r ≤ 1 ⌝ }
 {
     if right { 1 } else { 0 }
 }
 
-fn one_if_both(whole: bool, right: bool) -> usize
+pub(crate) fn one_if_both(whole: bool, right: bool) -> usize
     ensures { λ r. ⌜ r ≤ 1 ⌝ }
 {
     if whole { one_if(right) } else { 0 }
 }
 
-fn refuses(refusal: Refusal, number: u8, place: u8) -> bool {
+// Whether a refusal has this number and place.
+pub(crate) fn says(refusal: Refusal, number: u8, place: usize) -> bool {
     if refusal::inner::number(refusal) == number {
-        refusal::inner::place(refusal) == place as usize
+        refusal::inner::place(refusal) == place
     } else {
         false
     }
+}
+
+fn refuses(refusal: Refusal, number: u8, place: u8) -> bool {
+    says(refusal, number, place as usize)
 }
 
 fn answers(answer: Answer, number: u8, place: u8) -> bool {
@@ -152,7 +157,8 @@ fn agrees(answer: Coded, part: &[u8]) -> bool
     }
 }
 
-fn sum(high: u8, low: u8) -> u32
+// The number of two bytes, high byte first.
+pub(crate) fn sum(high: u8, low: u8) -> u32
     ensures { λ r. ⌜ r ≤ 65535 ⌝ }
 {
     unsigned(high) * 256 + unsigned(low)

@@ -159,7 +159,7 @@ fn ended(walk: Walk) {
     }
 }
 
-fn change(file: &mut [u8], place: usize, byte: u8)
+pub(crate) fn change(file: &mut [u8], place: usize, byte: u8)
     requires { ⌜ place < length (now file) ⌝ }
 {
     file[place] = byte;

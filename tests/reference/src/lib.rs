@@ -1,5 +1,4 @@
-//! An independent, plain Rust implementation of the block half of
-//! Fleecebutton, written from document 01 and from ITU-T H.264 (clauses 8.3.1
+//! An independent, plain Rust implementation of Fleecebutton, written from document 01 and from ITU-T H.264 (clauses 8.3.1
 //! and 8.5), and not from the Rattle code it is compared with.
 //!
 //! Every entry point takes any value of its argument types. It runs its tests
@@ -9,6 +8,7 @@
 mod block;
 mod dc;
 mod neighbours;
+mod plane;
 mod predict;
 mod quantizer;
 pub mod record;
@@ -17,6 +17,7 @@ mod transform;
 
 pub use block::{code_block, forward, levels, rebuild, rebuild_with_dc};
 pub use dc::{chroma_dc_levels, chroma_dc_values, luma_dc_levels, luma_dc_values};
+pub use plane::{code_plane, decode_plane};
 pub use predict::{choose, predict, Choice, Mode};
 pub use quantizer::{chroma_quantizer, Quantizer};
 pub use refusal::Refusal;

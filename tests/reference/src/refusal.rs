@@ -33,6 +33,10 @@ impl Refusal {
         Refusal::at(7, index)
     }
 
+    pub const fn form(place: usize) -> Refusal {
+        Refusal::at(9, place)
+    }
+
     const fn at(number: u8, place: usize) -> Refusal {
         Refusal {
             number,

@@ -1,6 +1,6 @@
 //! Writes test vectors: inputs with what the reference answers.
 //!
-//!     vectors BLOCK_FILE [DC_FILE]
+//!     vectors BLOCK_FILE [DC_FILE [PLANE_FILE]]
 //!
 //! The output is the same on every run. The files have no head; numbers of
 //! several bytes are high byte first, and negative ones in two's complement.
@@ -58,9 +58,15 @@
 //! A quantizer record has 5 bytes: QP, offset (signed), `chroma_quantizer` of
 //! these: number, place, quantizer. Order: for each QP 0 to 52 each offset -13
 //! to 13.
+//!
+//! # PLANE_FILE: 6347 records of 3 bytes
+//!
+//! Number and place (two bytes) of `decode_plane`, of the file `random-04.rec`
+//! with each byte complemented, then of its first 0 to 2115 bytes, then of the
+//! file with each byte exchanged for the next one.
 
 use reference::{
-    chroma_dc_levels, chroma_dc_values, chroma_quantizer, code_block, luma_dc_levels,
+    chroma_dc_levels, chroma_dc_values, chroma_quantizer, code_block, decode_plane, luma_dc_levels,
     luma_dc_values, predict, rebuild, Refusal,
 };
 use std::process::ExitCode;
@@ -69,11 +75,11 @@ const BLOCK_RECORD: usize = 121;
 
 fn main() -> ExitCode {
     let arguments: Vec<String> = std::env::args().skip(1).collect();
-    if !(1..=2).contains(&arguments.len()) {
-        eprintln!("usage: vectors BLOCK_FILE [DC_FILE]");
+    if !(1..=3).contains(&arguments.len()) {
+        eprintln!("usage: vectors BLOCK_FILE [DC_FILE [PLANE_FILE]]");
         return ExitCode::from(2);
     }
-    let makers: [fn() -> Vec<u8>; 2] = [block_vectors, dc_vectors];
+    let makers: [fn() -> Vec<u8>; 3] = [block_vectors, dc_vectors, plane_vectors];
     for (path, vectors) in arguments.iter().zip(makers) {
         if let Err(error) = std::fs::write(path, vectors()) {
             eprintln!("{path}: {error}");
@@ -81,6 +87,35 @@ fn main() -> ExitCode {
         }
     }
     ExitCode::SUCCESS
+}
+
+/// The 2x2 file that an outside coder made.
+const TWO_BY_TWO: &[u8] = include_bytes!("../../../../crates/vectors/data/random-04.rec");
+
+/// What `decode_plane` answers to `TWO_BY_TWO`, damaged.
+fn plane_vectors() -> Vec<u8> {
+    let complemented = (0..TWO_BY_TWO.len()).map(|place| {
+        let mut file = TWO_BY_TWO.to_vec();
+        file[place] = !file[place];
+        file
+    });
+    let cut = (0..TWO_BY_TWO.len()).map(|length| TWO_BY_TWO[..length].to_vec());
+    let exchanged = (1..TWO_BY_TWO.len()).map(|place| {
+        let mut file = TWO_BY_TWO.to_vec();
+        file.swap(place - 1, place);
+        file
+    });
+    complemented
+        .chain(cut)
+        .chain(exchanged)
+        .flat_map(|file| match decode_plane(&file, &mut [0; 1024]) {
+            Ok(()) => [0; 3],
+            Err(Refusal { number, place }) => {
+                let [high, low] = (place as u16).to_be_bytes();
+                [number, high, low]
+            }
+        })
+        .collect()
 }
 
 /// The splitmix64 generator, so that the files depend on nothing else.
