@@ -37,6 +37,9 @@ module _ (qp : ℕ) (x : List ℤ) where
         each-less 1632 32768 (quantized qp x)
         (zigzag-each 1632 (quantized qp x) length-quantized (own-levels-in-range qp legal x small .levels)) tt
 
+    pub coded-small : Each 32767 (levelsOf qp x)
+    coded-small = each-less 1632 32767 (levelsOf qp x) (own-levels-in-range qp legal x small .levels) tt
+
     pub numbers-small : Each 32768 (rescaled qp (quantized qp x))
     numbers-small =
         each-less 25978 32768 (rescaled qp (quantized qp x))
@@ -50,13 +53,15 @@ pub carried : (qp : ℕ) (round : Round) (block : List ℕ) (c : Choice) {x l d 
     → d ≡ rescaled qp l
     → z ≡ inZigzag l
     → s ≡ samplesOf (c .prediction) d
+    → Each 32767 (levelsOf qp x)
     → Carries qp round block (record { mode = c .mode; sad = c .sad; levels = z; rebuilt = s })
-carried qp round block c {x} {l} {d} {z} {s} picks is-x is-l is-d is-z is-s =
+carried qp round block c {x} {l} {d} {z} {s} picks is-x is-l is-d is-z is-s small =
     let p : c .prediction ≡ predictionOf round block = picks .prediction ∙ ap (bestSamples round) (picks .best) in
     let y : x ≡ residualOf block (predictionOf round block) = is-x ∙ ap (residualOf block) p in
     let n = is-d ∙ ap (rescaled qp) is-l ∙ sym (same-numbers qp x) ∙ ap (λ (r : List ℤ). numbersOf qp (levelsOf qp r)) y in
     record {
       best = picks .best;
+      small = subst (Each 32767) (sym (is-z ∙ ap inZigzag is-l)) small;
       levels = is-z ∙ ap inZigzag (is-l ∙ ap (quantized qp) y);
       rebuilt = is-s ∙ (λ i. samplesOf (p i) (n i));
     }
