@@ -1,4 +1,5 @@
 pub mod Alike
+pub mod Bytes
 pub mod Chain
 pub mod Every
 pub mod First
