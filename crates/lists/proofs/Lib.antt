@@ -7,6 +7,7 @@ pub mod Fold
 pub mod Keys
 pub mod Pairs
 pub mod Parts
+pub mod Places
 pub mod Stores
 pub mod Tab
 pub mod Total
