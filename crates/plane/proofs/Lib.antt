@@ -1,3 +1,6 @@
+pub mod CodedFile
+pub mod CodedOutcome
+pub mod Coding
 pub mod Entry
 pub mod Files
 pub mod Records
