@@ -1,4 +1,5 @@
-// The sixteen samples of a mode, and of all nine modes: row by row, so that the compiler unrolls each direction.
+// The sixteen samples of a mode, and of all nine modes: row by row, so that the compiler unrolls each direction. The rows come by value:
+// were they lent, each stored sample might have changed them, and the compiler would read and average them again.
 ghost use mathlib.Core.Path.{_≡_};
 ghost use Prim.Native.Nat.{_+_, _≤_};
 ghost use lib.ListN.{length, take, drop};
@@ -7,24 +8,24 @@ ghost use Rattle.predict.specs.Rules as paper;
 ghost use Rattle.predict.specs.Code.{withCorner, pastCorner, filled, areaOf};
 use crate::rules;
 
-fn put_vertical(t: &[u8], out: &mut [u8])
-    requires { ⌜ (5 ≤ length (now t)) × (length (now out) ≡ 16) ⌝ }
-    ensures { λ r. ⌜ now (out .exit) ≡ grid 4 (paper.vertical (pastCorner (now (t .entry)))) ⌝ }
+fn put_vertical(t: [u8; 9], out: &mut [u8])
+    requires { ⌜ length (now out) ≡ 16 ⌝ }
+    ensures { λ r. ⌜ now (out .exit) ≡ grid 4 (paper.vertical (pastCorner t)) ⌝ }
 {
     for y in 0..4 {
         for x in 0..4 {
-            out[4 * y + x] = rules::vertical(t, x, y);
+            out[4 * y + x] = rules::vertical(&t, x, y);
         }
     }
 }
 
-fn put_horizontal(s: &[u8], out: &mut [u8])
-    requires { ⌜ (5 ≤ length (now s)) × (length (now out) ≡ 16) ⌝ }
-    ensures { λ r. ⌜ now (out .exit) ≡ grid 4 (paper.horizontal (pastCorner (now (s .entry)))) ⌝ }
+fn put_horizontal(s: [u8; 5], out: &mut [u8])
+    requires { ⌜ length (now out) ≡ 16 ⌝ }
+    ensures { λ r. ⌜ now (out .exit) ≡ grid 4 (paper.horizontal (pastCorner s)) ⌝ }
 {
     for y in 0..4 {
         for x in 0..4 {
-            out[4 * y + x] = rules::horizontal(s, x, y);
+            out[4 * y + x] = rules::horizontal(&s, x, y);
         }
     }
 }
@@ -38,81 +39,81 @@ fn put_dc(mean: u8, out: &mut [u8])
     }
 }
 
-fn put_down_left(t: &[u8], out: &mut [u8])
-    requires { ⌜ (9 ≤ length (now t)) × (length (now out) ≡ 16) ⌝ }
-    ensures { λ r. ⌜ now (out .exit) ≡ grid 4 (paper.downLeft (pastCorner (now (t .entry)))) ⌝ }
+fn put_down_left(t: [u8; 9], out: &mut [u8])
+    requires { ⌜ length (now out) ≡ 16 ⌝ }
+    ensures { λ r. ⌜ now (out .exit) ≡ grid 4 (paper.downLeft (pastCorner t)) ⌝ }
 {
     for y in 0..4 {
         for x in 0..4 {
-            out[4 * y + x] = rules::down_left(t, x, y);
+            out[4 * y + x] = rules::down_left(&t, x, y);
         }
     }
 }
 
-fn put_down_right(t: &[u8], s: &[u8], out: &mut [u8])
-    requires { ⌜ (5 ≤ length (now t)) × (5 ≤ length (now s)) × (length (now out) ≡ 16) ⌝ }
-    ensures { λ r. ⌜ now (out .exit) ≡ grid 4 (paper.downRight (withCorner (now (t .entry))) (withCorner (now (s .entry)))) ⌝ }
+fn put_down_right(t: [u8; 9], s: [u8; 5], out: &mut [u8])
+    requires { ⌜ length (now out) ≡ 16 ⌝ }
+    ensures { λ r. ⌜ now (out .exit) ≡ grid 4 (paper.downRight (withCorner t) (withCorner s)) ⌝ }
 {
     for y in 0..4 {
         for x in 0..4 {
-            out[4 * y + x] = rules::down_right(t, s, x, y);
+            out[4 * y + x] = rules::down_right(&t, &s, x, y);
         }
     }
 }
 
-fn put_vertical_right(t: &[u8], s: &[u8], out: &mut [u8])
-    requires { ⌜ (5 ≤ length (now t)) × (5 ≤ length (now s)) × (length (now out) ≡ 16) ⌝ }
-    ensures { λ r. ⌜ now (out .exit) ≡ grid 4 (paper.verticalRight (withCorner (now (t .entry))) (withCorner (now (s .entry)))) ⌝ }
+fn put_vertical_right(t: [u8; 9], s: [u8; 5], out: &mut [u8])
+    requires { ⌜ length (now out) ≡ 16 ⌝ }
+    ensures { λ r. ⌜ now (out .exit) ≡ grid 4 (paper.verticalRight (withCorner t) (withCorner s)) ⌝ }
 {
     for y in 0..4 {
         for x in 0..4 {
-            out[4 * y + x] = rules::vertical_right(t, s, x, y);
+            out[4 * y + x] = rules::vertical_right(&t, &s, x, y);
         }
     }
 }
 
-fn put_horizontal_down(t: &[u8], s: &[u8], out: &mut [u8])
-    requires { ⌜ (5 ≤ length (now t)) × (5 ≤ length (now s)) × (length (now out) ≡ 16) ⌝ }
-    ensures { λ r. ⌜ now (out .exit) ≡ grid 4 (paper.horizontalDown (withCorner (now (t .entry))) (withCorner (now (s .entry)))) ⌝ }
+fn put_horizontal_down(t: [u8; 9], s: [u8; 5], out: &mut [u8])
+    requires { ⌜ length (now out) ≡ 16 ⌝ }
+    ensures { λ r. ⌜ now (out .exit) ≡ grid 4 (paper.horizontalDown (withCorner t) (withCorner s)) ⌝ }
 {
     for y in 0..4 {
         for x in 0..4 {
-            out[4 * y + x] = rules::horizontal_down(t, s, x, y);
+            out[4 * y + x] = rules::horizontal_down(&t, &s, x, y);
         }
     }
 }
 
-fn put_vertical_left(t: &[u8], out: &mut [u8])
-    requires { ⌜ (9 ≤ length (now t)) × (length (now out) ≡ 16) ⌝ }
-    ensures { λ r. ⌜ now (out .exit) ≡ grid 4 (paper.verticalLeft (pastCorner (now (t .entry)))) ⌝ }
+fn put_vertical_left(t: [u8; 9], out: &mut [u8])
+    requires { ⌜ length (now out) ≡ 16 ⌝ }
+    ensures { λ r. ⌜ now (out .exit) ≡ grid 4 (paper.verticalLeft (pastCorner t)) ⌝ }
 {
     for y in 0..4 {
         for x in 0..4 {
-            out[4 * y + x] = rules::vertical_left(t, x, y);
+            out[4 * y + x] = rules::vertical_left(&t, x, y);
         }
     }
 }
 
-fn put_horizontal_up(s: &[u8], out: &mut [u8])
-    requires { ⌜ (5 ≤ length (now s)) × (length (now out) ≡ 16) ⌝ }
-    ensures { λ r. ⌜ now (out .exit) ≡ grid 4 (paper.horizontalUp (pastCorner (now (s .entry)))) ⌝ }
+fn put_horizontal_up(s: [u8; 5], out: &mut [u8])
+    requires { ⌜ length (now out) ≡ 16 ⌝ }
+    ensures { λ r. ⌜ now (out .exit) ≡ grid 4 (paper.horizontalUp (pastCorner s)) ⌝ }
 {
     for y in 0..4 {
         for x in 0..4 {
-            out[4 * y + x] = rules::horizontal_up(s, x, y);
+            out[4 * y + x] = rules::horizontal_up(&s, x, y);
         }
     }
 }
 
 // A mode's samples over the rows, whether or not it is permitted.
-pub(crate) fn put(t: &[u8], s: &[u8], flags: u8, mode: u8, out: &mut [u8])
-    requires { ⌜ (9 ≤ length (now t)) × (5 ≤ length (now s)) × (mode ≤ 8) × (length (now out) ≡ 16) ⌝ }
-    ensures { λ r. ⌜ now (out .exit) ≡ filled (now (t .entry)) (now (s .entry)) flags mode ⌝ }
+pub(crate) fn put(t: [u8; 9], s: [u8; 5], flags: u8, mode: u8, out: &mut [u8])
+    requires { ⌜ (mode ≤ 8) × (length (now out) ≡ 16) ⌝ }
+    ensures { λ r. ⌜ now (out .exit) ≡ filled t s flags mode ⌝ }
 {
     match mode {
         0 => put_vertical(t, out),
         1 => put_horizontal(s, out),
-        2 => put_dc(rules::dc(t, s, flags), out),
+        2 => put_dc(rules::dc(&t, &s, flags), out),
         3 => put_down_left(t, out),
         4 => put_down_right(t, s, out),
         5 => put_vertical_right(t, s, out),
@@ -123,9 +124,9 @@ pub(crate) fn put(t: &[u8], s: &[u8], flags: u8, mode: u8, out: &mut [u8])
 }
 
 // The samples of all nine modes, one behind the other.
-pub(crate) fn put_all(t: &[u8], s: &[u8], flags: u8, area: &mut [u8])
-    requires { ⌜ (9 ≤ length (now t)) × (5 ≤ length (now s)) × (length (now area) ≡ 144) ⌝ }
-    ensures { λ r. ⌜ now (area .exit) ≡ areaOf (now (t .entry)) (now (s .entry)) flags ⌝ }
+pub(crate) fn put_all(t: [u8; 9], s: [u8; 5], flags: u8, area: &mut [u8])
+    requires { ⌜ length (now area) ≡ 144 ⌝ }
+    ensures { λ r. ⌜ now (area .exit) ≡ areaOf t s flags ⌝ }
 {
     for mode in 0..9 {
         let at = 16 * mode;

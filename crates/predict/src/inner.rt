@@ -42,7 +42,7 @@ pub fn fill(neighbours: &[u8], flags: u8, mode: u8, out: &mut [u8])
     let rows = samples::resolve(neighbours, flags);
     let top = rows.top;
     let left = rows.left;
-    fills::put(&top, &left, flags, mode, out);
+    fills::put(top, left, flags, mode, out);
 }
 
 // The permitted mode with the least SAD, the lower number on a tie.
@@ -54,7 +54,7 @@ pub fn chosen(neighbours: &[u8], flags: u8, samples: &[u8]) -> Choice
     let top = rows.top;
     let left = rows.left;
     let mut area = [0u8; 144];
-    fills::put_all(&top, &left, flags, &mut area);
+    fills::put_all(top, left, flags, &mut area);
     let best = choice::best(&area, flags, samples);
     let at = 16 * (best.mode as usize);
     Choice {

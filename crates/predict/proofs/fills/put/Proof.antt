@@ -20,7 +20,7 @@ returns-2 c = rw (c .before .before .before .before .match .keys2) (c .before .b
 returns-3 : tie.Need-returns-3
 unfolding filled
 returns-3 c =
-    rw (c .before .before .before .before .before .match .keys3)
+    rw (c .before .before .before .before .before .before .before .match .keys3)
     (c .before .before .put-dc .ensures ∙ ap (λ (v : ℕ). grid 4 (λ x y. v)) (c .before .before .before .before .dc .ensures))
 
 returns-4 : tie.Need-returns-4
@@ -46,7 +46,7 @@ returns-8 c = rw (c .before .before .before .before .match .keys8) (c .before .b
 returns-9 : tie.Need-returns-9
 unfolding filled
 returns-9 c =
-    let m = c .before .before .before .before .before .before .before .before .args .mode in
+    let m = c .before .before .before .before .before .before .args .mode in
     let e : m ≡ 8 = omega (arith, at-least 8 m (c .before .before .before .before .match .rest)) in
     rw e (c .before .before .put-horizontal-up .ensures)
 
@@ -56,6 +56,8 @@ put-spec =
     (tie.spec
     (λ c κs. search needs)
     (λ c κs. search needs)
+    (λ c. search needs)
+    (λ c. search needs)
     (λ c κs. search needs)
     (λ c κs. search needs)
     (λ c κs. search needs)
