@@ -1,4 +1,4 @@
--- `record::bytes::sum` meets its contract: the sum so far is the remainder of the sum of the bytes passed. Assumes nothing.
+-- `record::octets::sum` meets its contract: the sum so far is the remainder of the sum of the bytes passed. Assumes nothing.
 use mathlib.Core.Path.{_≡_, ap, _∙_}
 use Prim.Native.Nat.{_≤_, _-_}
 use native.Mathlib.Omega.{arith}
@@ -7,8 +7,8 @@ use lib.ListN.{length, take}
 use lib.Seq.{take-all}
 use Rattle.record.specs.Sum.{sumOf, recordSum}
 use Rattle.record.proofs.Sums.{sum-take}
-use Rattle.record.proofs.bytes.sum.Statement.{statement}
-use Rattle.record.proofs.bytes.sum.Tie as tie
+use Rattle.record.proofs.octets.sum.Statement.{statement}
+use Rattle.record.proofs.octets.sum.Tie as tie
 
 abbrev Inv-loop : tie.InvT-loop
 Inv-loop bytes sum₀ i₀ sum i = (i ≤ length bytes) × (sum ≡ recordSum (take i bytes))

@@ -1,12 +1,12 @@
--- `record::bytes::level_of` meets its contract: bits from 32768 on are lowered by 65536, any others stand. Assumes nothing.
+-- `record::octets::level_of` meets its contract: bits from 32768 on are lowered by 65536, any others stand. Assumes nothing.
 use mathlib.Core.Path.{sym, _∙_}
 use native.Mathlib.Omega.{arith}
 use borrow.Author.Needs.{needs}
 use mir.Facts.{toZ-pos}
 use mir.Syntax.{w16, w32}
 use Rattle.record.proofs.Bits.{lowered-fits, lowered-is}
-use Rattle.record.proofs.bytes.level_of.Statement.{statement}
-use Rattle.record.proofs.bytes.level_of.Tie as tie
+use Rattle.record.proofs.octets.level_of.Statement.{statement}
+use Rattle.record.proofs.octets.level_of.Tie as tie
 
 cast-result : tie.Need-cast-result
 cast-result c = search needs

@@ -1,12 +1,12 @@
--- `record::bytes::bits_of` meets its contract: a negative level is raised by 65536, any other stands. Assumes nothing.
+-- `record::octets::bits_of` meets its contract: a negative level is raised by 65536, any other stands. Assumes nothing.
 use mathlib.Core.Path.{_≡_}
 use lib.IntN.{pos, _+ℤ_}
 use mir.Facts.{toZ-ofZ, fits-ofZ}
 use mir.Syntax.{w16, w32}
 use mir.Val.{ofZ, toZ}
 use Rattle.record.proofs.Bits.{raised, kept, bits-fit}
-use Rattle.record.proofs.bytes.bits_of.Statement.{statement}
-use Rattle.record.proofs.bytes.bits_of.Tie as tie
+use Rattle.record.proofs.octets.bits_of.Statement.{statement}
+use Rattle.record.proofs.octets.bits_of.Tie as tie
 
 -- what the code has computed, on either side, is the number of the bits
 up : (c : tie.Then1) → toZ w32 (ofZ w32 (c .before .args .level)) +ℤ pos 65536 ≡ pos (ofZ w16 (c .before .args .level))

@@ -1,7 +1,7 @@
--- `record::bytes::unpack` meets its contract: the low four bits by a mask, the high four by a shift. Assumes nothing.
+-- `record::octets::unpack` meets its contract: the low four bits by a mask, the high four by a shift. Assumes nothing.
 use Rattle.record.proofs.Modes.{masked, shifted-down}
-use Rattle.record.proofs.bytes.unpack.Statement.{statement}
-use Rattle.record.proofs.bytes.unpack.Tie as tie
+use Rattle.record.proofs.octets.unpack.Statement.{statement}
+use Rattle.record.proofs.octets.unpack.Tie as tie
 
 returns : tie.Need-returns
 returns c = masked (c .before .args .block) (c .before .args .byte) (c .if1 .taken)

@@ -1,7 +1,7 @@
--- `record::bytes::pack` meets its contract: the second mode is shifted above the first. Assumes nothing.
+-- `record::octets::pack` meets its contract: the second mode is shifted above the first. Assumes nothing.
 use Rattle.record.proofs.Modes.{shifted-up}
-use Rattle.record.proofs.bytes.pack.Statement.{statement}
-use Rattle.record.proofs.bytes.pack.Tie as tie
+use Rattle.record.proofs.octets.pack.Statement.{statement}
+use Rattle.record.proofs.octets.pack.Tie as tie
 
 returns : tie.Need-returns
 returns c = shifted-up (c .args .low) (c .args .high) (c .pre .0) (c .pre .1)

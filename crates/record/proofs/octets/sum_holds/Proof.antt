@@ -1,4 +1,4 @@
--- `record::bytes::sum_holds` meets its contract: one comparison. Assumes nothing.
+-- `record::octets::sum_holds` meets its contract: one comparison. Assumes nothing.
 use mathlib.Core.Path.{sym}
 use Prim.Native.Nat.{_-_}
 use native.Mathlib.Omega.{arith}
@@ -6,8 +6,8 @@ use borrow.Author.Needs.{needs}
 use lib.ListN.{length}
 use lib.Seq.{length-take-le}
 use Rattle.record.specs.Records.{sumHolds}
-use Rattle.record.proofs.bytes.sum_holds.Statement.{statement}
-use Rattle.record.proofs.bytes.sum_holds.Tie as tie
+use Rattle.record.proofs.octets.sum_holds.Statement.{statement}
+use Rattle.record.proofs.octets.sum_holds.Tie as tie
 
 sub-n : tie.Need-sub-n
 sub-n c = search needs

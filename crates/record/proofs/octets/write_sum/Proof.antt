@@ -1,4 +1,4 @@
--- `record::bytes::write_sum` meets its contract: two stores behind what stands. Assumes nothing.
+-- `record::octets::write_sum` meets its contract: two stores behind what stands. Assumes nothing.
 use mathlib.Core.Path.{sym}
 use Prim.Native.Nat.{_-_}
 use native.Mathlib.Omega.{arith}
@@ -7,8 +7,8 @@ use lib.ListN.{length, length-set}
 use lib.Seq.{length-take-le}
 use Rattle.lists.proofs.Parts.{last-two}
 use Rattle.record.specs.Records.{summed}
-use Rattle.record.proofs.bytes.write_sum.Statement.{statement}
-use Rattle.record.proofs.bytes.write_sum.Tie as tie
+use Rattle.record.proofs.octets.write_sum.Statement.{statement}
+use Rattle.record.proofs.octets.write_sum.Tie as tie
 
 sub-n : tie.Need-sub-n
 sub-n c = search needs
