@@ -1,7 +1,7 @@
 /* Fleecebutton: a proved H.264 intra codec. Link target/staticlib/libfleecebutton.a, which `rt staticlib fleecebutton` makes.
  *
  * Slices. A slice is a pointer to its first element and its number of elements. No pointer is null. A slice that is not const is
- * an output: while a function runs it may not overlap another slice of the same call.
+ * an output. Slices lent together may not overlap.
  *
  * The word. Every function sends back one number of 64 bits. Its low byte is 0 on success; above it stands the value (0 where
  * none is named). Otherwise the low byte is the number of the refusal, and above it stands its place (0 where none is named;
