@@ -1,4 +1,7 @@
--- What a block by value carries: the bounds that its numbers need on the way, and that raster levels rescale as those in zigzag order do.
+-- What a block by value carries, and the bounds that its numbers need on the way.
+--     levels-small, coded-small, numbers-small     of a small residual
+--     carried                                      what the code computes in turn, put together
+--     length-samples, carried-long                 sixteen of each
 -- Assumes nothing.
 use mathlib.Core.Path.{_≡_, sym, ap, subst, _∙_}
 use mathlib.Core.List.{List}
@@ -16,31 +19,25 @@ use Rattle.residual.specs.Levels.{quantized, levelsOf}
 use Rattle.residual.specs.Order.{inZigzag}
 use Rattle.residual.specs.Rescale.{rescaled}
 use Rattle.residual.specs.Rebuild.{added, samplesOf, numbersOf}
-use Rattle.residual.proofs.Order.{length-zigzag, places-again, zigzag-each}
-use Rattle.residual.proofs.Own.{own-levels-in-range}
+use Rattle.residual.proofs.Order.{length-zigzag, zigzag-each}
+use Rattle.residual.proofs.Own.{length-quantized, own-numbers, own-levels-in-range}
 use Rattle.block.specs.Block.{residualOf, predictionOf}
 use Rattle.block.specs.Entry.{Carries}
 use Rattle.block.specs.declared.inner.Block.{Block}
 
-module _ (qp : ℕ) (x : List ℤ) where
-  length-quantized : length (quantized qp x) ≡ 16
-  unfolding quantized
-  length-quantized = length-tab 16 _
+module _ (qp : ℕ) (x : List ℤ) (legal : qp ≤ highest) (small : Each 255 x) where
+  pub levels-small : Each 32768 (quantized qp x)
+  levels-small =
+      each-less 1632 32768 (quantized qp x)
+      (zigzag-each 1632 (quantized qp x) (length-quantized qp x) (own-levels-in-range qp legal x small .levels)) tt
 
-  -- what the levels in zigzag order rescale to is what those in raster order rescale to
-  pub same-numbers : numbersOf qp (levelsOf qp x) ≡ rescaled qp (quantized qp x)
-  same-numbers = ap (rescaled qp) (places-again (quantized qp x) length-quantized)
+  pub coded-small : Each 32767 (levelsOf qp x)
+  coded-small = each-less 1632 32767 (levelsOf qp x) (own-levels-in-range qp legal x small .levels) tt
 
-  module _ (legal : qp ≤ highest) (small : Each 255 x) where
-    pub levels-small : Each 32768 (quantized qp x)
-    levels-small =
-        each-less 1632 32768 (quantized qp x)
-        (zigzag-each 1632 (quantized qp x) length-quantized (own-levels-in-range qp legal x small .levels)) tt
-
-    pub numbers-small : Each 32768 (rescaled qp (quantized qp x))
-    numbers-small =
-        each-less 25978 32768 (rescaled qp (quantized qp x))
-        (subst (Each 25978) same-numbers (own-levels-in-range qp legal x small .numbers)) tt
+  pub numbers-small : Each 32768 (rescaled qp (quantized qp x))
+  numbers-small =
+      each-less 25978 32768 (rescaled qp (quantized qp x))
+      (subst (Each 25978) (own-numbers qp x) (own-levels-in-range qp legal x small .numbers)) tt
 
 -- what the code computes in turn, put together: residual x, raster levels l, rescaled numbers d, zigzag levels z, samples s
 pub carried : (qp : ℕ) (round : Round) (block : List ℕ) (c : Choice) {x l d z : List ℤ} {s : List ℕ}
@@ -50,19 +47,21 @@ pub carried : (qp : ℕ) (round : Round) (block : List ℕ) (c : Choice) {x l d 
     → d ≡ rescaled qp l
     → z ≡ inZigzag l
     → s ≡ samplesOf (c .prediction) d
+    → Each 32767 (levelsOf qp x)
     → Carries qp round block (record { mode = c .mode; sad = c .sad; levels = z; rebuilt = s })
-carried qp round block c {x} {l} {d} {z} {s} picks is-x is-l is-d is-z is-s =
+carried qp round block c {x} {l} {d} {z} {s} picks is-x is-l is-d is-z is-s small =
     let p : c .prediction ≡ predictionOf round block = picks .prediction ∙ ap (bestSamples round) (picks .best) in
     let y : x ≡ residualOf block (predictionOf round block) = is-x ∙ ap (residualOf block) p in
-    let n = is-d ∙ ap (rescaled qp) is-l ∙ sym (same-numbers qp x) ∙ ap (λ (r : List ℤ). numbersOf qp (levelsOf qp r)) y in
+    let n = is-d ∙ ap (rescaled qp) is-l ∙ sym (own-numbers qp x) ∙ ap (λ (r : List ℤ). numbersOf qp (levelsOf qp r)) y in
     record {
       best = picks .best;
+      small = subst (Each 32767) (sym (is-z ∙ ap inZigzag is-l)) small;
       levels = is-z ∙ ap inZigzag (is-l ∙ ap (quantized qp) y);
       rebuilt = is-s ∙ (λ i. samplesOf (p i) (n i));
     }
 
 -- sixteen of each
-length-samples : (prediction : List ℕ) (d : List ℤ) → length (samplesOf prediction d) ≡ 16
+pub length-samples : (prediction : List ℕ) (d : List ℤ) → length (samplesOf prediction d) ≡ 16
 unfolding samplesOf added
 length-samples prediction d = length-tab 16 _
 

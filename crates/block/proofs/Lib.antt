@@ -1,4 +1,5 @@
 pub mod Carried
+pub mod Laws
 pub mod Missing
 pub mod Outcome
 pub mod Unique

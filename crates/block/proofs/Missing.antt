@@ -1,20 +1,22 @@
 -- What is coded of a block depends on the samples that are present, and a decoder can follow.
 --     missing-has-no-value     neighbours that agree wherever a sample is present give the same answer, mode, SAD, levels and rebuilt samples
---     rebuilds                 what is rebuilt is what `rebuild` gives from the prediction of that mode and those levels
+--     rebuilds                 what is rebuilt is what `rebuild` gives from the prediction of that mode and those levels, for neighbours and
+--                              samples that are bytes, as the function's types make them
 -- Assumes nothing.
 use mathlib.Core.Path.{_≡_, sym, ap, _∙_}
 use mathlib.Core.List.{List}
 use Prim.Native.Nat.{ℕ}
-use borrow.Author.Tests.{leb-true}
+use borrow.Author.Tests.{eqb-true, leb-true}
 use lib.IntN.{ℤ}
 use lib.ListN.{length}
 use Rattle.lists.specs.Chain.{pass, chain}
+use Rattle.lists.proofs.Bytes.{Bytes}
 use Rattle.lists.proofs.Chain.{chain-exactly-if}
-use Rattle.whole.specs.Bounds.{Each}
 use Rattle.refusal.proofs.Same.{says-same, says}
 use Rattle.refusal.specs.declared.Answer.the-variants.{Done}
 use Rattle.quantizer.specs.Range.{highest}
 use Rattle.predict.specs.Samples.{mask}
+use Rattle.predict.proofs.Bytes.{chosen-sixteen}
 use Rattle.predict.proofs.Missing.{AgreeWherePresent, same-mask}
 use Rattle.predict.specs.Rules as rules
 use Rattle.predict.specs.Choice.{at, chosen}
@@ -24,6 +26,7 @@ use Rattle.residual.specs.Rebuild.{samplesOf, numbersOf}
 use Rattle.residual.proofs.Own.{own-levels-pass}
 use Rattle.block.specs.Entry.{Codes, codeTests}
 use Rattle.block.specs.declared.Coded.{Coded}
+use Rattle.block.proofs.Laws.{residual-small}
 use Rattle.block.proofs.Outcome.{same-coded}
 use Rattle.block.specs.Block.{residualOf, predictionOf, codedLevels, codedSamples}
 use Rattle.block.specs.declared.Coded.the-variants.{Mode}
@@ -38,19 +41,18 @@ missing-has-no-value qp f n n′ s l o g r r′ l₁ l₂ o₁ o₂ p q =
       p .rebuilt ∙ rw (k, m) (sym (q .rebuilt)),
     )
 
--- for a prediction of sixteen samples that differ from the block's by 255 at the most, as bytes do
 pub rebuilds : (qp f : ℕ) (n s : List ℕ) (l : List ℤ) (o : List ℕ) (m sad : ℕ) (l′ : List ℤ) (o′ : List ℕ) → Codes qp f n s l o (Mode m sad) l′ o′
-    → Each 255 (residualOf s (predictionOf (mask n f) s))
-    → length (predictionOf (mask n f) s) ≡ 16
+    → Bytes n → Bytes s
     → (out : List ℕ) → length out ≡ 16 → Rebuilds qp (rules.samplesOf (rules.predicted (mask n f) m)) l′ out Done o′
-rebuilds qp f n s l o m sad l′ o′ p small long out room =
+rebuilds qp f n s l o m sad l′ o′ p near own out room =
     let v : chain (codeTests qp f n s l o) ≡ pass = sym (says-same (p .says)) in
     let all = chain-exactly-if (codeTests qp f n s l o) .passes .0 v in
+    let few = eqb-true (length n) 13 (all .0) in
     let legal = leb-true qp highest (all .1 .1 .1 .1 .1 .0) in
     let best : at m sad ≡ chosen (mask n f) s = p .best ∙ rw v in
     let y : predictionOf (mask n f) s ≡ rules.samplesOf (rules.predicted (mask n f) m) = ap (bestSamples (mask n f)) (sym best) in
     let is-l : l′ ≡ codedLevels qp (mask n f) s = p .levels ∙ rw v in
     let is-o : o′ ≡ codedSamples qp (mask n f) s = p .rebuilt ∙ rw v in
     let e : chain (rebuildTests qp (rules.samplesOf (rules.predicted (mask n f) m)) l′ out) ≡ pass =
-    rw (sym y, is-l) (own-levels-pass qp legal (residualOf s (predictionOf (mask n f) s)) small (predictionOf (mask n f) s) out long room) in
+    rw (sym y, is-l) (own-levels-pass qp legal (residualOf s (predictionOf (mask n f) s)) (residual-small n f s near own) (predictionOf (mask n f) s) out (chosen-sixteen n f s few) room) in
     record { says = says (sym e); wrote = simp e (is-o ∙ (λ i. samplesOf (y i) (numbersOf qp (sym is-l i)))) }

@@ -5,7 +5,7 @@ use lib.IntN.{ℤ, pos, _-ℤ_}
 use lib.ListN.{getD}
 use Rattle.lists.specs.Tab.{tab}
 use Rattle.predict.specs.Samples.{Round}
-use Rattle.predict.specs.Choice.{chosen}
+use Rattle.predict.specs.Choice.{Best, nothing, at, chosen}
 use Rattle.predict.specs.Entry.{bestSamples}
 use Rattle.residual.specs.Levels.{levelsOf}
 use Rattle.residual.specs.Rebuild.{numbersOf, samplesOf}
@@ -14,7 +14,15 @@ use Rattle.residual.specs.Rebuild.{numbersOf, samplesOf}
 unfoldable pub residualOf : List ℕ → List ℕ → List ℤ
 residualOf samples prediction = tab 16 (λ place. pos (getD samples place 0) -ℤ pos (getD prediction place 0))
 
--- "Choice: the permitted mode with the least SAD": its prediction
+-- "Choice: the permitted mode with the least SAD": its number (a block always has one: mode 2 needs nothing)
+abbrev pub modeOf : Best → ℕ
+modeOf nothing = 0
+modeOf (at mode sad) = mode
+
+abbrev pub codedMode : Round → List ℕ → ℕ
+codedMode round samples = modeOf (chosen round samples)
+
+-- and its prediction
 abbrev pub predictionOf : Round → List ℕ → List ℕ
 predictionOf round samples = bestSamples round (chosen round samples)
 

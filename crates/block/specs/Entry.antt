@@ -4,6 +4,7 @@ use mathlib.Core.List.{List, [], _∷_}
 use Prim.Native.Nat.{ℕ}
 use lib.IntN.{ℤ}
 use Rattle.lists.specs.Chain.{Test, Verdict, pass, stop, chain, written}
+use Rattle.whole.specs.Bounds.{Each}
 use Rattle.refusal.specs.Number.{Says}
 use Rattle.refusal.specs.declared.Refusal.{Refusal}
 use Rattle.predict.specs.Samples.{Round, mask}
@@ -37,8 +38,9 @@ pub record Codes (qp flags : ℕ) (neighbours samples : List ℕ) (l : List ℤ)
   pub levels : l′ ≡ written (chain (codeTests qp flags neighbours samples l o)) (codedLevels qp (mask neighbours flags) samples) l
   pub rebuilt : o′ ≡ written (chain (codeTests qp flags neighbours samples l o)) (codedSamples qp (mask neighbours flags) samples) o
 
--- ---- for the other crates: a block coded by value
+-- ---- for the other crates: a block coded by value, and that its levels fit the 16 bits that a record has for each
 pub record Carries (qp : ℕ) (round : Round) (samples : List ℕ) (r : Block) : Type 0 where
   pub best : at (r .mode) (r .sad) ≡ chosen round samples
+  pub small : Each 32767 (r .levels)
   pub levels : r .levels ≡ codedLevels qp round samples
   pub rebuilt : r .rebuilt ≡ codedSamples qp round samples

@@ -1,4 +1,5 @@
 pub mod Alike
+pub mod Bytes
 pub mod Chain
 pub mod Every
 pub mod First
@@ -6,6 +7,7 @@ pub mod Fold
 pub mod Keys
 pub mod Pairs
 pub mod Parts
+pub mod Places
 pub mod Stores
 pub mod Tab
 pub mod Total

@@ -3,8 +3,9 @@
 --     growing-all, last-two                                                 straight stores at 0, 1, ..; in the last two places
 --     Pasting: pasting-none, pasting-more, pasting-done                     stores from place a on, the others as they were
 --     copied                                                                a whole list copied over another
---     parts-none, parts-more, parts-split, part-behind                      parts one behind the other; what stands behind the first k
---     length-parts, parts-at                                                where all parts are of one size
+--     parts-none, parts-more, parts-same                                    parts one behind the other; equal rules
+--     parts-split, part-behind                                              what stands behind the first k
+--     length-parts, parts-at, parts-to                                      where all parts are of one size
 --     part-home, part-read                                                  a lent part that comes home, as a paste; read again
 -- Assumes nothing.
 use mathlib.Core.Path.{_≡_, refl, sym, ap, _∙_}
@@ -77,6 +78,11 @@ module _ {A : Type 0} where
   unfolding parts
   parts-more n f = rw add-one
 
+  pub parts-same : (n : ℕ) (f g : ℕ → List A) → ((k : ℕ) → k < n → f k ≡ g k) → parts n f ≡ parts n g
+  unfolding parts
+  parts-same zero f g h = refl
+  parts-same (suc n) f g h = rw (parts-same n f g (λ k l. h k (omega arith)), h n (omega arith))
+
   module _ (size : ℕ) (f : ℕ → List A) where
     pub length-parts : (n : ℕ) → ((k : ℕ) → k < n → length (f k) ≡ size) → length (parts n f) ≡ size * n
     unfolding parts
@@ -107,6 +113,12 @@ module _ {A : Type 0} where
   parts-split k (suc d) f =
       let z : k + suc d ≡ suc (k + d) = omega arith in
       rw z (ap (λ (l : List A). l ++ f (k + d)) (parts-split k d f) ∙ append-assoc (parts k f) (parts d (λ i. f (k + i))) (f (k + d)))
+
+  pub parts-to : (size : ℕ) (f : ℕ → List A) (n m : ℕ) → ((k : ℕ) → k < n → length (f k) ≡ size) → m ≤ n → take (size * m) (parts n f) ≡ parts m f
+  parts-to size f n m e h =
+      let z : n ≡ m + (n - m) = omega arith in
+      ap (λ (i : ℕ). take (size * m) (parts i f)) z ∙ ap (take (size * m)) (parts-split m (n - m) f)
+      ∙ take-at (parts m f) (parts (n - m) (λ i. f (m + i))) (size * m) (length-parts size f m (λ k l. e k (omega arith)))
 
   -- behind a head and the first k parts stands part k
   pub part-behind : (head : List A) (n k : ℕ) (f : ℕ → List A) → k < n

@@ -1,6 +1,7 @@
 pub mod Around
 pub mod Blocks
 pub mod Byte
+pub mod Bytes
 pub mod Owner
 pub mod Plane
 pub mod Presence

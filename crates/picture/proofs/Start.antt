@@ -4,18 +4,20 @@
 --     seen-same, gathered-same     planes alike up to a block show it the same neighbours
 --     length-turn, length-turns, length-macroblocks     a plane keeps its length
 --     turn-alike               a block's turn keeps two planes alike, up to it
+--     turns-alike, macroblocks-alike     so do the first turns of a macroblock, and those of the first macroblocks
 --     start-has-no-value       the picture after all turns is the same from any two planes of its length
 -- Assumes nothing.
 use mathlib.Core.Path.{_≡_, refl, sym, ap, _∙_}
 use mathlib.Core.Bool.{Bool, true, false, cond}
 use mathlib.Core.List.{List}
-use Prim.Native.Nat.{ℕ, suc, _+_, _*_, _-_, _/_, _%_, _<_}
+use Prim.Native.Nat.{ℕ, suc, _+_, _*_, _-_, _/_, _%_, _<_, _≤_}
+use native.Mathlib.Nat.{not-suc-le-zero}
 use native.Mathlib.Omega.{arith}
 use lib.Arith.{digits-lt, digits-div, digits-mod}
 use lib.ListN.{length, getD}
 use Rattle.lists.specs.Fold.{fold}
 use Rattle.lists.proofs.Alike.{Alike, Steps, step-alike, start-forgotten}
-use Rattle.lists.proofs.Fold.{fold-keeps, fold-flat}
+use Rattle.lists.proofs.Fold.{fold-keeps, fold-flat, fold-along}
 use Rattle.lists.proofs.Tab.{tab-same, getD-tab}
 use Rattle.picture.specs.declared.Layout.{Layout}
 use Rattle.picture.specs.Order.{blockColumn, blockRow, orderOf}
@@ -95,6 +97,24 @@ module _ (make : ℕ → ℕ → List ℕ → List ℕ) (l : Layout) (some : 0 <
       let x : (16 * m + b) / 16 ≡ m = omega arith in
       let y : (16 * m + b) % 16 ≡ b = omega arith in
       rw (x, y) at (step-alike 0 (ownerOf l) (samplesOf l) turns (16 * m + b) (omega arith) p q a)
+
+  pub turns-alike : (m n : ℕ) (p q : List ℕ) → m < l .width * l .height → n ≤ 16 → AlikeTo l (orderOf m 0) p q
+      → AlikeTo l (orderOf m n) (fold n (turn make l m) p) (fold n (turn make l m) q)
+  turns-alike m n p q hm hn a =
+      fold-along (λ k x y. AlikeTo l (orderOf m k) x y) n (turn make l m) (turn make l m) p q a
+      (λ k h r.
+      let z : suc (orderOf m k) ≡ orderOf m (suc k) = omega arith in
+      rw z at (turn-alike m k (fold k (turn make l m) p) (fold k (turn make l m) q) hm (omega arith) r))
+
+  -- any two planes of the picture are alike before its first block
+  pub macroblocks-alike : (n : ℕ) (p q : List ℕ) → n ≤ l .width * l .height → length p ≡ samplesOf l → length q ≡ samplesOf l
+      → AlikeTo l (orderOf n 0) (fold n (λ m. fold 16 (turn make l m)) p) (fold n (λ m. fold 16 (turn make l m)) q)
+  macroblocks-alike n p q hn hp hq =
+      fold-along (λ k x y. AlikeTo l (orderOf k 0) x y) n (λ m. fold 16 (turn make l m)) (λ m. fold 16 (turn make l m)) p q
+      (record { this = hp; that = hq; agree = λ i h o. absurd (not-suc-le-zero o) })
+      (λ k h r.
+      let z : orderOf k 16 ≡ orderOf (suc k) 0 = omega arith in
+      rw z at (turns-alike k 16 (fold k (λ m. fold 16 (turn make l m)) p) (fold k (λ m. fold 16 (turn make l m)) q) (omega arith) (omega arith) r))
 
   pub start-has-no-value : (p q : List ℕ) → length p ≡ samplesOf l → length q ≡ samplesOf l → allTurns make l p ≡ allTurns make l q
   unfolding allTurns

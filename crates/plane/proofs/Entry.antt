@@ -83,7 +83,7 @@ both : (a b : Bool) → (a && b) ≡ true → (a ≡ true) × (b ≡ true)
 both true b e = (refl, e)
 both false b e = (cc, cc)
 
-sound-of : (width height : ℕ) → sizeHolds width height ≡ true → Sound (layoutOf width height)
+pub sound-of : (width height : ℕ) → sizeHolds width height ≡ true → Sound (layoutOf width height)
 unfolding sizeHolds
 sound-of width height e =
     let d = both (dimension width) (dimension height) e in

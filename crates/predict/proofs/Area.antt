@@ -1,6 +1,7 @@
 -- The area of all nine predictions, and the search over it.
 --     area-less, area-more, area-passed              one mode is looked at
 --     Looking: looking-none, looking-more, looking-done     the loop over the modes
+--     length-filled, permitted-cost                  each of the nine has sixteen samples; a mode that has a cost is permitted
 --     picked                                         what it finds is the choice round the block, and its part of the area the samples
 -- Assumes nothing.
 use mathlib.Core.Path.{_≡_, refl, sym, ap, ap₂, subst, _∙_}
@@ -79,7 +80,7 @@ module _ (n : ℕ) (cost : ℕ → Cost) where
 
 -- ---- the whole search
 
-length-filled : (t s : List ℕ) (f k : ℕ) → k < 9 → length (filled t s f k) ≡ 16
+pub length-filled : (t s : List ℕ) (f k : ℕ) → k < 9 → length (filled t s f k) ≡ 16
 unfolding filled grid tab
 length-filled t s f zero h = refl
 length-filled t s f (suc zero) h = refl
@@ -116,7 +117,7 @@ module _ (n : List ℕ) (f : ℕ) (block : List ℕ) (e : length n ≡ 13) where
       ∙ ap (λ (g : List ℕ). standing (bestOf 9 (areaCost g f block))) w
       ∙ ap standing (best-same 9 (areaCost (areaOf (topRow n f) (leftRow n) f) f block) (costsOf (mask n f) block) area-costs)
 
-  permitted-cost : (m s : ℕ) → costsOf (mask n f) block m ≡ is s → permitted f m ≡ true
+  pub permitted-cost : (m s : ℕ) → costsOf (mask n f) block m ≡ is s → permitted f m ≡ true
   permitted-cost m s c = by (permitted f m) refl
     where
       by : (b : Bool) → permitted f m ≡ b → permitted f m ≡ true

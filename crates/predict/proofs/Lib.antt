@@ -1,4 +1,5 @@
 pub mod Area
+pub mod Bytes
 pub mod Least
 pub mod Masked
 pub mod Missing

@@ -1,6 +1,8 @@
 -- What the coder gives fits 16 bits and rescales into 16 bits, and how the DC path's AC levels stand to a block's levels.
 --     own-levels-in-range     any residual in range, any quantizer: levels up to 1632, rescaled numbers up to 25978
---     own-levels-pass         so `rebuild` accepts them
+--     own-numbers             levels in zigzag order rescale to what those in raster order do
+--     own-numbers-fit         so RANGE finds none
+--     own-levels-pass         and `rebuild` accepts them
 --     dc-path                 the AC levels of a DC-path block are levels 1 to 15; its DC is coefficient 0, in the range of the DC paths
 -- Assumes nothing.
 use mathlib.Core.Path.{_≡_, refl, sym, ap, subst, _∙_}
@@ -32,7 +34,7 @@ use Rattle.residual.specs.Levels.{quantized, levelsOf}
 use Rattle.residual.specs.Quantize.{signed, levelBy, levelOf, fOf, qOf}
 use Rattle.residual.specs.Rescale.{scaledBy, mfAt, vAt, rescaled}
 use Rattle.residual.proofs.Quantize.{third-small, level-within, size-signed}
-use Rattle.residual.specs.Entry.{rebuildTests, levelTests, rangeTest}
+use Rattle.residual.specs.Entry.{rebuildTests, levelTests, rangeTest, firstWide}
 use Rattle.residual.specs.Order.{inZigzag, inPlaces}
 use Rattle.residual.specs.Rebuild.{numbersOf, numbersWithDc}
 use Rattle.residual.proofs.Entry.{wide-none, accepts-all, range-fine}
@@ -98,6 +100,15 @@ unfolding rescaled inPlaces tab
 other-levels qp [] e dc = absurd (omega arith)
 other-levels qp (z ∷ l) e dc = refl
 
+module _ (qp : ℕ) (x : List ℤ) where
+  pub length-quantized : length (quantized qp x) ≡ 16
+  unfolding quantized
+  length-quantized = length-tab 16 _
+
+  -- the levels as they are sent come back to their places
+  pub own-numbers : numbersOf qp (levelsOf qp x) ≡ rescaled qp (quantized qp x)
+  own-numbers = ap (rescaled qp) (places-again (quantized qp x) length-quantized)
+
 module _ (qp : ℕ) (legal : qp ≤ highest) (x : List ℤ) (small : Each 255 x) where
   at-place : (place : ℕ) → place < 16 → getD (quantized qp x) place (pos 0) ≡ levelOf 0 (periodOf qp) (mfAt qp place) (getD (forward x) place (pos 0))
   unfolding quantized
@@ -115,14 +126,6 @@ module _ (qp : ℕ) (legal : qp ≤ highest) (x : List ℤ) (small : Each 255 x)
       subst (λ (l : ℤ). Within 25978 (scaledBy 0 (periodOf qp) (l *ℤ pos (vAt qp place)))) (sym (at-place place h))
       (rescaled-own (classAtPlace place) (remainderOf qp) (periodOf qp) (getD (forward x) place (pos 0)) (omega arith) (omega arith) (forward-within x small place h)))
 
-  length-quantized : length (quantized qp x) ≡ 16
-  unfolding quantized
-  length-quantized = length-tab 16 _
-
-  -- the levels as they are sent come back to their places
-  own-numbers : numbersOf qp (levelsOf qp x) ≡ rescaled qp (quantized qp x)
-  own-numbers = ap (rescaled qp) (places-again (quantized qp x) length-quantized)
-
   pub record OwnInRange : Type 0 where
     pub levels : Each 1632 (levelsOf qp x)
     pub numbers : Each 25978 (numbersOf qp (levelsOf qp x))
@@ -130,19 +133,23 @@ module _ (qp : ℕ) (legal : qp ≤ highest) (x : List ℤ) (small : Each 255 x)
   pub own-levels-in-range : OwnInRange
   own-levels-in-range = record {
     levels = in-zigzag-each 1632 (quantized qp x) quantized-each;
-    numbers = subst (Each 25978) (sym own-numbers) rescaled-each;
+    numbers = subst (Each 25978) (sym (own-numbers qp x)) rescaled-each;
   }
+
+  -- none lies outside -32768..32767
+  pub own-numbers-fit : firstWide (inZigzag (numbersOf qp (levelsOf qp x))) ≡ 16
+  own-numbers-fit =
+      let d = numbersOf qp (levelsOf qp x) in
+      wide-none (inZigzag d) (in-zigzag-each 32767 d (each-less 25978 32767 d (own-levels-in-range .numbers) tt)) ∙ length-zigzag d
 
   -- so `rebuild` accepts them, whatever the prediction
   pub own-levels-pass : (p o : List ℕ) → length p ≡ 16 → length o ≡ 16 → chain (rebuildTests qp p (levelsOf qp x) o) ≡ pass
   own-levels-pass p o a b =
       let l = levelsOf qp x in
-      let d = numbersOf qp l in
-      let own = own-levels-in-range in
       let n : length (levelsOf qp x) ≡ 16 = length-zigzag (quantized qp x) in
-      let first = accepts-all 16 0 qp (length p) l (length o) a n b legal (omega (arith, wide-none l (each-less 1632 32767 l (own .levels) tt))) in
-      chain-passed (levelTests 16 0 qp (length p) l (length o)) (rangeTest d ∷ []) first
-      ∙ range-fine d (omega (arith, wide-none (inZigzag d) (in-zigzag-each 32767 d (each-less 25978 32767 d (own .numbers) tt)), length-zigzag d))
+      let first = accepts-all 16 0 qp (length p) l (length o) a n b legal (omega (arith, wide-none l (each-less 1632 32767 l (own-levels-in-range .levels) tt))) in
+      chain-passed (levelTests 16 0 qp (length p) l (length o)) (rangeTest (numbersOf qp l) ∷ []) first
+      ∙ range-fine (numbersOf qp l) (omega (arith, own-numbers-fit))
 
   -- ---- the DC path
 

@@ -3,7 +3,7 @@ use borrow.Author.Needs.{needs}
 use mathlib.Core.Path.{sym, ap, subst, _∙_}
 use Rattle.whole.specs.Bounds.{Each}
 use Rattle.residual.specs.Rescale.{rescaled}
-use Rattle.block.proofs.Carried.{levels-small, numbers-small, carried}
+use Rattle.block.proofs.Carried.{levels-small, coded-small, numbers-small, carried}
 use Rattle.block.proofs.inner.coded.Statement.{statement}
 use Rattle.block.proofs.inner.coded.Tie as tie
 
@@ -27,7 +27,9 @@ returns c =
     let r = z .before in
     let l = r .before in
     let h = l .before .before .before in
+    let s = h .before .before .before in
     carried _ _ _ (h .chosen .result) (h .chosen .ensures) (l .before .lacking .ensures .0) (l .quantized .ensures) (r .rescaled .ensures) (z .in-zigzag .ensures) (c .samples .ensures)
+    (coded-small (s .args .quantizer .qp) (l .before .lacking .result) (s .pre .0) (l .before .lacking .ensures .1))
 
 pub coded-spec : {M : Type 1} → statement M
 coded-spec =

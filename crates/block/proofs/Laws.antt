@@ -1,0 +1,81 @@
+-- The laws of one coded block, for neighbours and samples that are bytes: what a record can hold, a decoder accept and a plane take up.
+--     residual-small     what the prediction lacks is in -255..255
+--     bytes-samples      what is rebuilt of any prediction and any numbers is bytes
+--     block-laws         all of `BlockLaws`, over the neighbours, the flags and the samples
+-- Assumes nothing.
+use mathlib.Core.Path.{_≡_, refl, sym, ap, subst}
+use mathlib.Core.Bool.{true}
+use mathlib.Core.List.{List}
+use Prim.Native.Nat.{ℕ, _<_, _≤_}
+use native.Mathlib.Omega.{arith}
+use lib.IntN.{ℤ, pos}
+use lib.ListN.{length, getD}
+use mir.Syntax.{w16}
+use mir.Val.{SFits}
+use Rattle.lists.proofs.Bytes.{Bytes, bytes-tab}
+use Rattle.whole.specs.Bounds.{Each}
+use Rattle.whole.specs.Clip.{clip}
+use Rattle.whole.proofs.Bound.{here, fits, bytes-differ}
+use Rattle.whole.proofs.Lists.{each-tab}
+use Rattle.whole.proofs.Order.{clip-le}
+use Rattle.whole.proofs.Steps.{each-at}
+use Rattle.quantizer.specs.Range.{highest}
+use Rattle.predict.specs.Samples.{mask}
+use Rattle.predict.specs.Rules as rules
+use Rattle.predict.specs.Choice.{Best, chosen}
+use Rattle.predict.specs.Entry.{bestSamples}
+use Rattle.predict.proofs.Bytes.{best-bytes, chosen-mode}
+use Rattle.residual.specs.Entry.{firstWide}
+use Rattle.residual.specs.Order.{inZigzag}
+use Rattle.residual.specs.Rebuild.{added, samplesOf, numbersOf}
+use Rattle.residual.proofs.Order.{length-zigzag}
+use Rattle.residual.proofs.Own.{own-levels-in-range, own-numbers-fit}
+use Rattle.block.specs.Block.{residualOf, modeOf, codedMode, predictionOf, codedLevels, codedSamples}
+use Rattle.block.proofs.Carried.{length-samples}
+
+pub residual-small : (n : List ℕ) (f : ℕ) (s : List ℕ) → Bytes n → Bytes s → Each 255 (residualOf s (predictionOf (mask n f) s))
+unfolding residualOf
+residual-small n f s near own =
+    let p = predictionOf (mask n f) s in
+    let b = best-bytes n f near (chosen (mask n f) s) in
+    each-tab 255 16 _ (λ place l. bytes-differ (getD s place 0) (getD p place 0) (own .byte place) (b .byte place))
+
+-- "clipped to 0..255"
+clip-byte : (z : ℤ) → clip 255 z < 256
+clip-byte z = omega (arith, clip-le 255 z)
+
+pub bytes-samples : (prediction : List ℕ) (d : List ℤ) → Bytes (samplesOf prediction d)
+unfolding samplesOf added
+bytes-samples prediction d = bytes-tab 16 _ (λ place l. clip-byte _)
+
+pub record BlockLaws (qp : ℕ) (n : List ℕ) (f : ℕ) (s : List ℕ) : Type 0 where
+  -- the mode is one of the nine, and the flags permit it
+  pub mode-small : codedMode (mask n f) s < 9
+  pub permitted : rules.permitted f (codedMode (mask n f) s) ≡ true
+  -- sixteen levels, each in 16 bits, that rescale into 16 bits
+  pub sixteen : length (codedLevels qp (mask n f) s) ≡ 16
+  pub fits : (k : ℕ) → SFits w16 (getD (codedLevels qp (mask n f) s) k (pos 0))
+  pub in-range : firstWide (inZigzag (numbersOf qp (codedLevels qp (mask n f) s))) ≡ 16
+  -- what is rebuilt is what the mode's prediction and the levels give: sixteen bytes
+  pub rebuilds : codedSamples qp (mask n f) s ≡ samplesOf (rules.samplesOf (rules.predicted (mask n f) (codedMode (mask n f) s))) (numbersOf qp (codedLevels qp (mask n f) s))
+  pub made-sixteen : length (codedSamples qp (mask n f) s) ≡ 16
+  pub made-bytes : Bytes (codedSamples qp (mask n f) s)
+
+pub block-laws : (qp : ℕ) (n : List ℕ) (f : ℕ) (s : List ℕ) → qp ≤ highest → length n ≡ 13 → Bytes n → Bytes s → BlockLaws qp n f s
+block-laws qp n f s legal long near own =
+    let x = residualOf s (predictionOf (mask n f) s) in
+    let small = residual-small n f s near own in
+    let levels = codedLevels qp (mask n f) s in
+    let c = chosen-mode n f s long in
+    let e : predictionOf (mask n f) s ≡ rules.samplesOf (rules.predicted (mask n f) (codedMode (mask n f) s)) =
+    subst (λ (b : Best). bestSamples (mask n f) b ≡ rules.samplesOf (rules.predicted (mask n f) (modeOf b))) (sym (c .is)) refl in
+    record {
+      mode-small = subst (λ (b : Best). modeOf b < 9) (sym (c .is)) (c .within);
+      permitted = subst (λ (b : Best). rules.permitted f (modeOf b) ≡ true) (sym (c .is)) (c .allowed);
+      sixteen = length-zigzag _;
+      fits = λ k. fits (here (each-at 1632 levels (own-levels-in-range qp legal x small .levels) k)) tt;
+      in-range = own-numbers-fit qp legal x small;
+      rebuilds = ap (λ (p : List ℕ). samplesOf p (numbersOf qp levels)) e;
+      made-sixteen = length-samples _ _;
+      made-bytes = bytes-samples _ _;
+    }

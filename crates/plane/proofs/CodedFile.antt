@@ -1,0 +1,56 @@
+-- The file of a coded plane: the head and 527 bytes for each macroblock.
+--     length-levels-from, length-blocks-from     sixteen levels for each block, so 256 for a macroblock
+--     length-record-from                         a macroblock's record
+--     length-file-from, length-coded-file        the file
+--     same-record                                records of the same modes and levels, block by block
+-- Assumes nothing.
+use mathlib.Core.Path.{_≡_}
+use mathlib.Core.List.{List}
+use Prim.Native.Nat.{ℕ, _+_, _*_, _<_}
+use native.Mathlib.Omega.{arith}
+use lib.ListN.{length, length-append}
+use Rattle.lists.specs.Parts.{parts}
+use Rattle.lists.proofs.Parts.{length-parts, parts-same}
+use Rattle.lists.proofs.Tab.{tab-same}
+use Rattle.residual.proofs.Order.{length-zigzag}
+use Rattle.record.specs.Records.{headOf, recordOf}
+use Rattle.record.proofs.Back.{length-head, length-record}
+use Rattle.picture.specs.declared.Layout.{Layout}
+use Rattle.picture.specs.Plane.{samplesOf}
+use Rattle.plane.specs.Decode.{countOf, cleared}
+use Rattle.plane.specs.Code.{modeFrom, levelsFrom, seen, modesFrom, blocksFrom, recordFrom, planeBefore, fileFrom, codedFile}
+
+module _ (l : Layout) (qp : ℕ) (original : List ℕ) where
+  pub length-levels-from : (m b : ℕ) (neighbours : List ℕ) → length (levelsFrom l qp original m b neighbours) ≡ 16
+  unfolding levelsFrom
+  length-levels-from m b neighbours = length-zigzag _
+
+  pub length-blocks-from : (m : ℕ) (before : List ℕ) → length (blocksFrom l qp original m before) ≡ 256
+  length-blocks-from m before =
+      length-parts 16 (λ b. levelsFrom l qp original m b (seen l qp original m before b)) 16
+      (λ b h. length-levels-from m b (seen l qp original m before b))
+
+  pub length-record-from : (m : ℕ) (before : List ℕ) → length (recordFrom l qp original m before) ≡ 527
+  unfolding recordFrom
+  length-record-from m before = length-record m qp (modesFrom l qp original m before) (blocksFrom l qp original m before) (length-blocks-from m before)
+
+  pub length-file-from : (start : List ℕ) → length (fileFrom l qp original start) ≡ 8 + 527 * countOf l
+  unfolding fileFrom
+  length-file-from start =
+      let record-at : ℕ → List ℕ = λ m. recordFrom l qp original m (planeBefore l qp original start m) in
+      let n = length-parts 527 record-at (countOf l) (λ m h. length-record-from m (planeBefore l qp original start m)) in
+      omega (arith, length-append (headOf (l .width) (l .height)) (parts (countOf l) record-at), length-head (l .width) (l .height), n)
+
+  pub length-coded-file : length (codedFile l qp original) ≡ 8 + 527 * countOf l
+  length-coded-file = length-file-from (cleared (samplesOf l))
+
+-- of two planes, from two rebuilt planes before the macroblock
+pub same-record : (l : Layout) (qp m : ℕ) (p q before after : List ℕ)
+    → ((b : ℕ) → b < 16 → modeFrom l p m b (seen l qp p m before b) ≡ modeFrom l q m b (seen l qp q m after b))
+    → ((b : ℕ) → b < 16 → levelsFrom l qp p m b (seen l qp p m before b) ≡ levelsFrom l qp q m b (seen l qp q m after b))
+    → recordFrom l qp p m before ≡ recordFrom l qp q m after
+unfolding recordFrom
+same-record l qp m p q before after same-modes same-levels =
+    let modes : modesFrom l qp p m before ≡ modesFrom l qp q m after = tab-same 16 _ _ same-modes in
+    let blocks : blocksFrom l qp p m before ≡ blocksFrom l qp q m after = parts-same 16 _ _ same-levels in
+    λ i. recordOf m qp (modes i) (blocks i)

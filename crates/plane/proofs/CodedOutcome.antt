@@ -1,0 +1,121 @@
+-- What the tests of coding a plane come to, case by case, when it refuses, and what is known where it does not.
+--     bad-size, plane-missed, file-missed, rebuilt-missed, high-quantizer, plane-coded     a law for each answer of the code
+--     code-plane-refuses-exactly-if
+--     same-coded-plane     an answer is known by what it says and how many bytes it used
+--     Outcome, outcome     where it answers `Bytes`, no test has failed
+-- Assumes nothing.
+use mathlib.Core.Path.{_≡_, sym, ap, subst, _∙_}
+use mathlib.Core.Bool.{true, false}
+use mathlib.Core.List.{List, _++_, append-nil}
+use Prim.Native.Nat.{ℕ, _+_, _*_, _<_, _≤_}
+use native.Mathlib.Omega.{arith}
+use borrow.Author.Tests.{eqb-true, leb-true, eq-eqb, ne-eqb, le-leb, lt-leb}
+use lib.ListN.{length, drop-of-length-le}
+use Rattle.lists.specs.Chain.{Verdict, pass, stop, chain, written}
+use Rattle.lists.proofs.Chain.{ExactlyIf, chain-exactly-if}
+use Rattle.refusal.specs.declared.Refusal.{Refusal}
+use Rattle.refusal.specs.declared.Refusal.the-variants as refusal
+use Rattle.refusal.proofs.Same.{says, says-same, says-exactly-if}
+use Rattle.quantizer.specs.Range.{highest}
+use Rattle.record.specs.Entry.{sizeHolds}
+use Rattle.picture.specs.Plane.{samplesOf}
+use Rattle.plane.specs.Content.{layoutOf}
+use Rattle.plane.specs.Decode.{countOf}
+use Rattle.plane.specs.Code.{codedFile, codedPlane, codePlaneTests, saidPlane, bytesUsed, over, CodesPlane}
+use Rattle.plane.specs.declared.CodedPlane.{CodedPlane}
+use Rattle.plane.specs.declared.CodedPlane.the-variants.{Bytes, Refused}
+use Rattle.plane.proofs.CodedFile.{length-coded-file}
+
+-- what goes over an area as long as it is fills it
+over-all : (new old : List ℕ) → length old ≡ length new → over new old ≡ new
+over-all new old e = ap (λ (l : List ℕ). new ++ l) (drop-of-length-le old {i = length new} (omega arith)) ∙ append-nil new
+
+pub same-coded-plane : (x y : CodedPlane) → saidPlane x ≡ saidPlane y → bytesUsed x ≡ bytesUsed y → x ≡ y
+same-coded-plane (Bytes m) (Bytes n) e g = ap Bytes g
+same-coded-plane (Bytes m) (Refused t) e g = cc
+same-coded-plane (Refused r) (Bytes n) e g = cc
+same-coded-plane (Refused r) (Refused t) e g = let p : r ≡ t = cc in ap Refused p
+
+-- ---- a law for each answer
+
+module _ (width height qp : ℕ) (plane file rebuilt : List ℕ) where
+  pub code-plane-refuses-exactly-if : (r : CodedPlane) (file′ rebuilt′ : List ℕ) → CodesPlane width height qp plane file rebuilt r file′ rebuilt′
+      → ExactlyIf (codePlaneTests width height qp plane file rebuilt) (saidPlane r)
+  code-plane-refuses-exactly-if r file′ rebuilt′ p = says-exactly-if (codePlaneTests width height qp plane file rebuilt) (p .says)
+
+  abbrev samples : ℕ
+  samples = samplesOf (layoutOf width height)
+
+  abbrev room : ℕ
+  room = 8 + 527 * countOf (layoutOf width height)
+
+  refused : (r : Refusal) → chain (codePlaneTests width height qp plane file rebuilt) ≡ stop r → CodesPlane width height qp plane file rebuilt (Refused r) file rebuilt
+  refused r e = record { says = says (sym e); used = simp e; filed = simp e; stored = simp e }
+
+  pub bad-size : sizeHolds width height ≡ false → CodesPlane width height qp plane file rebuilt (Refused refusal.Size) file rebuilt
+  bad-size h = refused refusal.Size (simp h)
+
+  module _ (s : sizeHolds width height ≡ true) where
+    pub plane-missed : (length plane ≡ samples → ⊥) → CodesPlane width height qp plane file rebuilt (Refused refusal.Length) file rebuilt
+    plane-missed h = refused refusal.Length (simp (s, ne-eqb (length plane) samples h))
+
+    module _ (p : length plane ≡ samples) where
+      pub file-missed : (length file ≡ room → ⊥) → CodesPlane width height qp plane file rebuilt (Refused refusal.Length) file rebuilt
+      file-missed h = refused refusal.Length (simp (s, eq-eqb (length plane) samples p, ne-eqb (length file) room h))
+
+      module _ (f : length file ≡ room) where
+        pub rebuilt-missed : (length rebuilt ≡ samples → ⊥) → CodesPlane width height qp plane file rebuilt (Refused refusal.Length) file rebuilt
+        rebuilt-missed h = refused refusal.Length (simp (s, eq-eqb (length plane) samples p, eq-eqb (length file) room f, ne-eqb (length rebuilt) samples h))
+
+        module _ (r : length rebuilt ≡ samples) where
+          pub high-quantizer : highest < qp → CodesPlane width height qp plane file rebuilt (Refused (refusal.Quantizer 0)) file rebuilt
+          high-quantizer h =
+              refused (refusal.Quantizer 0)
+              (simp (s, eq-eqb (length plane) samples p, eq-eqb (length file) room f, eq-eqb (length rebuilt) samples r, lt-leb qp highest h))
+
+          -- k is the number that the quantizer in hand has
+          pub plane-coded : {k : ℕ} → k ≡ qp → qp ≤ highest → {file′ rebuilt′ : List ℕ}
+              → file′ ≡ codedFile (layoutOf width height) k plane → rebuilt′ ≡ codedPlane (layoutOf width height) k plane
+              → CodesPlane width height qp plane file rebuilt (Bytes room) file′ rebuilt′
+          plane-coded is q {file′} {rebuilt′} u v =
+              let l = layoutOf width height in
+              let e : chain (codePlaneTests width height qp plane file rebuilt) ≡ pass =
+              simp (s, eq-eqb (length plane) samples p, eq-eqb (length file) room f, eq-eqb (length rebuilt) samples r, le-leb qp highest q) in
+              let n = length-coded-file l qp plane in
+              record {
+                says = says (sym e);
+                used = simp e (sym n);
+                filed = simp e (u ∙ ap (λ (i : ℕ). codedFile l i plane) is ∙ sym (over-all (codedFile l qp plane) file (f ∙ sym n)));
+                stored = simp e (v ∙ ap (λ (i : ℕ). codedPlane l i plane) is);
+              }
+
+-- ---- what an answer tells
+
+-- what is known where a plane was coded
+pub record Outcome (width height qp : ℕ) (plane file rebuilt : List ℕ) (used : ℕ) (file′ rebuilt′ : List ℕ) : Type 0 where
+  pub size : sizeHolds width height ≡ true
+  pub long : length plane ≡ samplesOf (layoutOf width height)
+  pub room : length rebuilt ≡ samplesOf (layoutOf width height)
+  pub legal : qp ≤ highest
+  pub bytes : used ≡ 8 + 527 * countOf (layoutOf width height)
+  pub filed : file′ ≡ codedFile (layoutOf width height) qp plane
+  pub stored : rebuilt′ ≡ codedPlane (layoutOf width height) qp plane
+
+module _ (width height qp : ℕ) (plane : List ℕ) where
+  pub outcome : (file rebuilt : List ℕ) (used : ℕ) (file′ rebuilt′ : List ℕ) → CodesPlane width height qp plane file rebuilt (Bytes used) file′ rebuilt′
+      → Outcome width height qp plane file rebuilt used file′ rebuilt′
+  outcome file rebuilt used file′ rebuilt′ c =
+      let v : chain (codePlaneTests width height qp plane file rebuilt) ≡ pass = sym (says-same (c .says)) in
+      let all = chain-exactly-if (codePlaneTests width height qp plane file rebuilt) .passes .0 v in
+      let n = length-coded-file (layoutOf width height) qp plane in
+      let area : length file ≡ 8 + 527 * countOf (layoutOf width height) = eqb-true (length file) (8 + 527 * countOf (layoutOf width height)) (all .1 .1 .0) in
+      record {
+        size = all .0;
+        long = eqb-true (length plane) (samplesOf (layoutOf width height)) (all .1 .0);
+        room = eqb-true (length rebuilt) (samplesOf (layoutOf width height)) (all .1 .1 .1 .0);
+        legal = leb-true qp highest (all .1 .1 .1 .1 .0);
+        bytes = c .used ∙ ap (λ (w : Verdict Refusal). written w (length (codedFile (layoutOf width height) qp plane)) 0) v ∙ n;
+        filed = c .filed ∙ ap (λ (w : Verdict Refusal). written w (over (codedFile (layoutOf width height) qp plane) file) file) v
+            ∙ over-all (codedFile (layoutOf width height) qp plane) file (area ∙ sym n);
+        stored = c .stored ∙ ap (λ (w : Verdict Refusal). written w (codedPlane (layoutOf width height) qp plane) rebuilt) v;
+      }

@@ -1,0 +1,84 @@
+-- Record m does differ where macroblock m does, by evaluation: two planes of two macroblocks, both grey at the left, at QP 28.
+--     left-same        they agree in macroblock 0
+--     left-record      so they have the same record 0
+--     right-differs    but not the same record 1
+-- Assumes nothing.
+use mathlib.Core.Path.{_≡_, refl, sym, ap, _∙_}
+use mathlib.Core.Bool.{cond}
+use mathlib.Core.List.{List}
+use Prim.Native.Nat.{ℕ, _+_, _*_, _/_, _%_, _<_}
+use native.Mathlib.Omega.{arith}
+use borrow.Author.Tests.{lt-ltb}
+use lib.Arith.{digits-mod}
+use lib.Dec.{ltb}
+use lib.ListN.{getD}
+use Rattle.lists.specs.First.{first}
+use Rattle.lists.specs.Fold.{fold}
+use Rattle.lists.specs.Parts.{parts}
+use Rattle.lists.specs.Stores.{stores}
+use Rattle.lists.specs.Tab.{tab, grid}
+use Rattle.lists.specs.Total.{total}
+use Rattle.lists.proofs.Tab.{getD-tab, tab-same}
+use Rattle.whole.specs.Clip.{clip}
+use Rattle.transform.specs.Forward.{forward}
+use Rattle.transform.specs.Inverse.{inverse}
+use Rattle.predict.specs.Samples.{bitOf}
+use Rattle.predict.specs.Rules.{vertical, horizontal, downLeft, downRight, verticalRight, verticalLeft, horizontalUp, predicted}
+use Rattle.predict.specs.Choice.{sad, bestOf, chosen}
+use Rattle.residual.specs.Levels.{quantized}
+use Rattle.residual.specs.Order.{inZigzag, inPlaces}
+use Rattle.residual.specs.Quantize.{levelBy}
+use Rattle.residual.specs.Rescale.{scaledBy, rescaled}
+use Rattle.residual.specs.Rebuild.{added, samplesOf}
+use Rattle.block.specs.Block.{residualOf}
+use Rattle.record.specs.Modes.{packed}
+use Rattle.record.specs.Numbers.{levelBytes}
+use Rattle.record.specs.Records.{summed, frontOf, recordOf}
+use Rattle.picture.specs.Order.{blockTable, blockIn, tablePlace, columnIn, rowIn, blockColumn, blockRow, orderAt}
+use Rattle.picture.specs.Plane.{blockAt, stored, neighbour, gathered, turn}
+use Rattle.picture.specs.Presence.{present, presentAt, flagsOf}
+use Rattle.picture.proofs.Blocks.{inner-facts}
+use Rattle.plane.specs.Content.{layoutOf}
+use Rattle.plane.specs.Decode.{cleared}
+use Rattle.plane.specs.Code.{levelsFrom, samplesFrom, seen, recordFrom, planeBefore}
+use Rattle.plane.proofs.OwnRecord.{SameTo, recordOn, own-record}
+
+-- sixteen rows of 16 samples of 128 and 16 others
+abbrev rowsOf : (right i : ℕ) → ℕ
+rowsOf right i = cond (ltb (i % 32) 16) 128 right
+
+abbrev beside : (right : ℕ) → List ℕ
+beside right = tab 512 (rowsOf right)
+
+-- a place at the left
+left-at : (right row column : ℕ) → row < 16 → column < 16 → getD (beside right) (row * 32 + column) 0 ≡ 128
+left-at right row column hr hc =
+    let h : column < 32 = omega arith in
+    getD-tab 512 (rowsOf right) (row * 32 + column) 0 (omega arith) ∙ rw (digits-mod row {m = 32} {r = column} h, lt-ltb column 16 hc)
+
+pub left-same : SameTo (layoutOf 2 1) 1 (beside 128) (beside 138)
+unfolding blockAt grid blockColumn blockRow
+left-same m hm b hb =
+    let f = inner-facts b hb in
+    tab-same 16 _ _
+    (λ k hk.
+    let row = 16 * (m / 2) + 4 * rowIn b + k / 4 in
+    let column = 16 * (m % 2) + 4 * columnIn b + k % 4 in
+    let r : row < 16 = omega (arith, f .low) in
+    let c : column < 16 = omega (arith, f .thin) in
+    left-at 128 row column r c ∙ sym (left-at 138 row column r c))
+
+-- record m of such a plane
+abbrev recordBeside : (right m : ℕ) → List ℕ
+recordBeside right m = recordOn (layoutOf 2 1) 28 (cleared 512) (beside right) m
+
+pub left-record : recordBeside 128 0 ≡ recordBeside 138 0
+left-record = own-record (layoutOf 2 1) 28 (cleared 512) (beside 128) (beside 138) 1 left-same 0 (omega arith)
+
+-- the low byte of the first level of macroblock 1
+level-of : (getD (recordBeside 128 1) 14 0 ≡ 0) × (getD (recordBeside 138 1) 14 0 ≡ 2)
+unfolding recordFrom recordOf summed frontOf packed levelBytes levelsFrom seen gathered neighbour turn present presentAt flagsOf orderAt blockColumn blockRow columnIn rowIn tablePlace blockIn blockTable first fold parts tab grid total bitOf predicted vertical horizontal downLeft downRight verticalRight verticalLeft horizontalUp sad bestOf chosen residualOf forward quantized levelBy inZigzag blockAt planeBefore samplesFrom stored stores samplesOf added clip inverse rescaled scaledBy inPlaces
+level-of = (refl, refl)
+
+pub right-differs : recordBeside 128 1 ≡ recordBeside 138 1 → ⊥
+right-differs e = omega (arith, level-of .0, level-of .1, ap (λ (record-one : List ℕ). getD record-one 14 0) e)
