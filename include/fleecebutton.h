@@ -86,6 +86,11 @@ uint64_t fb_code_block(uint8_t qp, uint8_t flags, const uint8_t *neighbours, siz
                        const uint8_t *samples, size_t samples_length, int32_t *levels, size_t levels_length,
                        uint8_t *rebuilt, size_t rebuilt_length);
 
+/* A plane of width * height macroblocks of 16x16, 256 * width * height samples by rows, to its record file of
+ * 8 + 527 * width * height bytes and to the plane that a decoder rebuilds. SIZE, LENGTH, QUANTIZER. Value: the bytes used. */
+uint64_t fb_code_plane(size_t width, size_t height, uint8_t qp, const uint8_t *plane, size_t plane_length,
+                       uint8_t *file, size_t file_length, uint8_t *rebuilt, size_t rebuilt_length);
+
 /* The size of the picture whose record file this is, in macroblocks of 16x16. FORM, SIZE. Value: width + 256 * height. */
 uint64_t fb_read_head(const uint8_t *file, size_t file_length);
 

@@ -194,6 +194,16 @@ static uint64_t code_block(void) {
                          rebuilt.at, rebuilt.length);
 }
 
+static uint64_t code_plane(void) {
+    size_t width = (size_t)number();
+    size_t height = (size_t)number();
+    uint8_t qp = (uint8_t)number();
+    struct bytes plane = bytes();
+    struct bytes file = bytes();
+    struct bytes rebuilt = bytes();
+    return fb_code_plane(width, height, qp, plane.at, plane.length, file.at, file.length, rebuilt.at, rebuilt.length);
+}
+
 static uint64_t read_head(void) {
     struct bytes file = bytes();
     return fb_read_head(file.at, file.length);
@@ -207,8 +217,9 @@ static uint64_t decode_plane(void) {
 
 /* The number of a function in a request is its place here; tests/differential has the same order. */
 static uint64_t (*const functions[])(void) = {
-    predict,         choose,          forward,          levels,           rebuild,          rebuild_with_dc, luma_dc_levels,
-    luma_dc_values,  chroma_dc_levels, chroma_dc_values, chroma_quantizer, code_block,       read_head,       decode_plane,
+    predict,        choose,           forward,          levels,           rebuild,    rebuild_with_dc, luma_dc_levels,
+    luma_dc_values, chroma_dc_levels, chroma_dc_values, chroma_quantizer, code_block, code_plane,      read_head,
+    decode_plane,
 };
 
 int main(void) {

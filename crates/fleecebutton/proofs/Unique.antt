@@ -30,6 +30,8 @@ use Rattle.fleecebutton.proofs.fb_chroma_quantizer.Kinds as fb-chroma-q
 use Rattle.fleecebutton.proofs.fb_chroma_quantizer.Reads as fb-chroma-quantizer-reads
 use Rattle.fleecebutton.proofs.fb_code_block.Kinds as fb-code-block
 use Rattle.fleecebutton.proofs.fb_code_block.Reads as fb-code-block-reads
+use Rattle.fleecebutton.proofs.fb_code_plane.Kinds as fb-code-plane
+use Rattle.fleecebutton.proofs.fb_code_plane.Reads as fb-code-plane-reads
 use Rattle.fleecebutton.proofs.fb_read_head.Kinds as fb-read-head
 use Rattle.fleecebutton.proofs.fb_read_head.Reads as fb-read-head-reads
 use Rattle.fleecebutton.proofs.fb_decode_plane.Kinds as fb-decode-plane
@@ -74,6 +76,13 @@ fb-code-block-unique κs a x y e f p q =
     let l = p .levels ∙ sym (q .levels) in
     let o = p .rebuilt ∙ sym (q .rebuilt) in
     (p .word ∙ sym (q .word), λ i. (l i, o i))
+
+-- both outputs at exit
+pub fb-code-plane-unique : Unique 3 fb-code-plane.ps fb-code-plane.r fb-code-plane-reads.Learnt (List ℕ × List ℕ) (λ κs e. (now (e .1 .1 .1 .1 .0), now (e .1 .1 .1 .1 .1 .0)))
+fb-code-plane-unique κs a x y e f p q =
+    let file = p .filed ∙ sym (q .filed) in
+    let plane = p .stored ∙ sym (q .stored) in
+    (p .word ∙ sym (q .word), λ i. (file i, plane i))
 
 pub fb-read-head-unique : Unique 1 fb-read-head.ps fb-read-head.r fb-read-head-reads.Learnt (Unit {0}) (λ κs e. tt)
 fb-read-head-unique κs a x y e f p q = (p ∙ sym q, refl)

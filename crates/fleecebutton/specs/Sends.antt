@@ -4,6 +4,7 @@ use mathlib.Core.Path.{_≡_}
 use mathlib.Core.List.{List}
 use Prim.Native.Nat.{ℕ}
 use lib.IntN.{ℤ}
+use lib.ListN.{length}
 use Rattle.lists.specs.Chain.{chain, written}
 use Rattle.predict.specs.Choice.{chosen}
 use Rattle.predict.specs.Entry.{predictTests, chooseTests, bestSamples}
@@ -20,6 +21,8 @@ use Rattle.quantizer.specs.Chroma.{chromaTests, chromaOf}
 use Rattle.block.specs.Block.{codedLevels, codedSamples}
 use Rattle.block.specs.Entry.{codeTests}
 use Rattle.record.specs.Entry.{headTests, widthAt, heightAt}
+use Rattle.plane.specs.Content.{layoutOf}
+use Rattle.plane.specs.Code.{codePlaneTests, codedFile, codedPlane, over}
 use Rattle.plane.specs.Decode.{decodeTests, layoutIn, decoded}
 use Rattle.fleecebutton.specs.Word.{wordOf, choiceValue, sizeValue, Sends}
 
@@ -66,6 +69,12 @@ pub record CodeBlockSends (qp flags : ℕ) (neighbours samples : List ℕ) (l : 
   pub word : w ≡ wordOf (chain (codeTests qp flags neighbours samples l o)) (choiceValue (chosen (mask neighbours flags) samples))
   pub levels : l′ ≡ written (chain (codeTests qp flags neighbours samples l o)) (codedLevels qp (mask neighbours flags) samples) l
   pub rebuilt : o′ ≡ written (chain (codeTests qp flags neighbours samples l o)) (codedSamples qp (mask neighbours flags) samples) o
+
+-- two outputs: the file area and the rebuilt plane, file and rebuilt at entry, file′ and rebuilt′ at exit; the value is the bytes used
+pub record CodePlaneSends (width height qp : ℕ) (plane file rebuilt : List ℕ) (w : ℕ) (file′ rebuilt′ : List ℕ) : Type 0 where
+  pub word : w ≡ wordOf (chain (codePlaneTests width height qp plane file rebuilt)) (length (codedFile (layoutOf width height) qp plane))
+  pub filed : file′ ≡ written (chain (codePlaneTests width height qp plane file rebuilt)) (over (codedFile (layoutOf width height) qp plane) file) file
+  pub stored : rebuilt′ ≡ written (chain (codePlaneTests width height qp plane file rebuilt)) (codedPlane (layoutOf width height) qp plane) rebuilt
 
 abbrev pub ReadHeadSends : (file : List ℕ) (w : ℕ) → Type 0
 ReadHeadSends file w = w ≡ wordOf (chain (headTests file)) (sizeValue (widthAt file) (heightAt file))

@@ -12,6 +12,7 @@ ghost use Rattle.fleecebutton.specs.Sends.{
   ChromaDcValuesSends,
   ChromaQuantizerSends,
   CodeBlockSends,
+  CodePlaneSends,
   ReadHeadSends,
   DecodePlaneSends,
 };
@@ -130,6 +131,21 @@ pub extern "C" fn fb_code_block(
     ensures { λ r. ⌜ CodeBlockSends qp flags (now (neighbours .entry)) (now (samples .entry)) (now (levels .entry)) (now (rebuilt .entry)) r (now (levels .exit)) (now (rebuilt .exit)) ⌝ }
 {
     word::of_coded(block::code_block(qp, flags, neighbours, samples, levels, rebuilt))
+}
+
+// The record file of a plane, and the plane that a decoder rebuilds from it; the bytes used are the word's value.
+#[no_mangle]
+pub extern "C" fn fb_code_plane(
+    width: usize,
+    height: usize,
+    qp: u8,
+    plane: &[u8],
+    file: &mut [u8],
+    rebuilt: &mut [u8],
+) -> u64
+    ensures { λ r. ⌜ CodePlaneSends width height qp (now (plane .entry)) (now (file .entry)) (now (rebuilt .entry)) r (now (file .exit)) (now (rebuilt .exit)) ⌝ }
+{
+    word::of_plane(plane::code_plane(width, height, qp, plane, file, rebuilt))
 }
 
 // The size of the picture whose file this is: width + 256 * height is the word's value.

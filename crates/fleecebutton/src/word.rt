@@ -7,8 +7,10 @@ ghost use Rattle.predict.specs.Entry.{saidChosen, bestIn};
 ghost use Rattle.block.specs.Entry.{saidCoded, bestCoded};
 ghost use Rattle.quantizer.specs.Range.{said as saidBuilt, qpOf};
 ghost use Rattle.record.specs.Entry.{said as saidHead, widthOf, heightOf};
+ghost use Rattle.plane.specs.Code.{saidPlane, bytesUsed};
 ghost use Rattle.fleecebutton.specs.Word.{places, wordOf, choiceValue, sizeValue};
 use block::Coded;
+use plane::CodedPlane;
 use predict::Chosen;
 use quantizer::Built;
 use record::Head;
@@ -82,5 +84,15 @@ pub(crate) fn of_head(head: Head) -> u64
     match head {
         Head::Legal(width, height) => of_success((width + 256 * height) as u64),
         Head::Refused(refusal) => of_refusal(refusal),
+    }
+}
+
+pub(crate) fn of_plane(coded: CodedPlane) -> u64
+    requires { ⌜ bytesUsed coded < places ⌝ }
+    ensures { λ r. ⌜ r ≡ wordOf (saidPlane coded) (bytesUsed coded) ⌝ }
+{
+    match coded {
+        CodedPlane::Bytes(used) => of_success(used as u64),
+        CodedPlane::Refused(refusal) => of_refusal(refusal),
     }
 }

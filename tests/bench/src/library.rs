@@ -14,7 +14,12 @@ extern "C" {
         rebuilt: *mut u8,
         rebuilt_length: usize,
     ) -> u64;
-    fn fb_decode_plane(file: *const u8, file_length: usize, plane: *mut u8, plane_length: usize) -> u64;
+    fn fb_decode_plane(
+        file: *const u8,
+        file_length: usize,
+        plane: *mut u8,
+        plane_length: usize,
+    ) -> u64;
 }
 
 #[cfg(study)]
@@ -30,7 +35,13 @@ extern "C" {
         height: usize,
         qp: u8,
     ) -> u32;
-    fn study_decode(file: *const u8, file_length: usize, plane: *mut u8, plane_length: usize, parts: u8) -> u32;
+    fn study_decode(
+        file: *const u8,
+        file_length: usize,
+        plane: *mut u8,
+        plane_length: usize,
+        parts: u8,
+    ) -> u32;
 }
 
 pub struct Proved;
@@ -60,7 +71,8 @@ impl Codec for Proved {
 
     fn decode(&self, file: &[u8], plane: &mut [u8]) {
         // Each pointer comes with its slice's length.
-        let word = unsafe { fb_decode_plane(file.as_ptr(), file.len(), plane.as_mut_ptr(), plane.len()) };
+        let word =
+            unsafe { fb_decode_plane(file.as_ptr(), file.len(), plane.as_mut_ptr(), plane.len()) };
         assert_eq!(word, 0);
     }
 }
@@ -96,7 +108,15 @@ impl Codec for Study {
         /// The form of the records, their content, and the plane.
         const ALL_PARTS: u8 = 7;
         // Each pointer comes with its slice's length; the file is one that the study itself wrote.
-        let answer = unsafe { study_decode(file.as_ptr(), file.len(), plane.as_mut_ptr(), plane.len(), ALL_PARTS) };
+        let answer = unsafe {
+            study_decode(
+                file.as_ptr(),
+                file.len(),
+                plane.as_mut_ptr(),
+                plane.len(),
+                ALL_PARTS,
+            )
+        };
         assert_eq!(answer, 0);
     }
 }

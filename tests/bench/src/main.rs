@@ -3,9 +3,9 @@
 
 mod library;
 
-use library::{Reference, Proved};
 #[cfg(study)]
 use library::Study;
+use library::{Proved, Reference};
 use std::time::{Duration, Instant};
 
 /// In macroblocks: the largest picture.
@@ -58,7 +58,10 @@ fn picture() -> Vec<u8> {
 
 /// The best time of each codec for coding and for decoding.
 fn times(codecs: &[Box<dyn Codec>], qp: u8, plane: &[u8]) -> [Vec<Duration>; 2] {
-    let mut best = [vec![Duration::MAX; codecs.len()], vec![Duration::MAX; codecs.len()]];
+    let mut best = [
+        vec![Duration::MAX; codecs.len()],
+        vec![Duration::MAX; codecs.len()],
+    ];
     let (mut file, mut rebuilt, mut decoded) = (vec![1; FILE], vec![1; SAMPLES], vec![1; SAMPLES]);
     let (mut first_file, mut first_rebuilt) = (vec![1; FILE], vec![1; SAMPLES]);
     codecs[0].code(qp, plane, &mut first_file, &mut first_rebuilt);
@@ -78,7 +81,10 @@ fn times(codecs: &[Box<dyn Codec>], qp: u8, plane: &[u8]) -> [Vec<Duration>; 2] 
 }
 
 fn print_times(what: &str, qp: u8, codecs: &[Box<dyn Codec>], times: &[Duration]) {
-    let own = times.last().expect("the proved library comes last").as_secs_f64();
+    let own = times
+        .last()
+        .expect("the proved library comes last")
+        .as_secs_f64();
     for (codec, time) in codecs.iter().zip(times) {
         let seconds = time.as_secs_f64();
         println!(

@@ -1,5 +1,6 @@
 //! Arguments of the functions on record files: whole files, and files damaged in every field, with the sum mended or not.
 
+use crate::planes::picture;
 use crate::random::Random;
 use crate::request::Argument::{self, Bytes};
 use reference::record::{HEAD, MACROBLOCK};
@@ -77,14 +78,8 @@ fn files() -> &'static Files {
     })
 }
 
-/// A picture of slopes with noise, so that every mode is chosen somewhere.
 fn coded(random: &mut Random, width: usize, height: usize, qp: u8) -> Vec<u8> {
-    let (down, right, noise) = (random.below(12), random.below(12), 1 + random.below(90));
-    let sample = |place: usize| {
-        let (x, y) = (place % (16 * width), place / (16 * width));
-        (right * x + down * y + x / 16 * 40 + random.below(noise)) as u8
-    };
-    let plane: Vec<u8> = (0..256 * width * height).map(sample).collect();
+    let plane = picture(random, width, height);
     let mut file = vec![0; HEAD + MACROBLOCK * width * height];
     let mut rebuilt = vec![0; plane.len()];
     reference::code_plane(width, height, qp, &plane, &mut file, &mut rebuilt)

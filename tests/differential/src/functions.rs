@@ -2,7 +2,7 @@
 
 use crate::random::Random;
 use crate::request::Argument::{self, Bytes, Number, Numbers};
-use crate::{blocks, files};
+use crate::{blocks, files, planes};
 use reference::{Choice, Refusal};
 
 pub struct Function {
@@ -18,8 +18,11 @@ pub struct Function {
 
 const CASES: usize = 200_000;
 
+/// A coded plane is sixteen coded blocks or more.
+const PLANES: usize = 100_000;
+
 /// In the order of `functions` in tests/peer/peer.c.
-pub const ALL: [Function; 14] = [
+pub const ALL: [Function; 15] = [
     Function {
         name: "fb_predict",
         cases: CASES,
@@ -155,6 +158,22 @@ pub const ALL: [Function; 14] = [
                 rebuilt,
             )
             .map(value)
+        },
+    },
+    Function {
+        name: "fb_code_plane",
+        cases: PLANES + 1,
+        outcomes: &[0, 1, 2, 8],
+        make: |random, case| planes::code_plane(random, case == PLANES),
+        call: |arguments| {
+            let [Number(width), Number(height), Number(qp), Bytes(plane), Bytes(file), Bytes(rebuilt)] =
+                arguments
+            else {
+                unreachable!()
+            };
+            let (width, height) = (*width as usize, *height as usize);
+            reference::code_plane(width, height, *qp as u8, plane, file, rebuilt)
+                .map(|used| used as u64)
         },
     },
     Function {

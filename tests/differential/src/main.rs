@@ -7,6 +7,7 @@ mod blocks;
 mod files;
 mod functions;
 mod peer;
+mod planes;
 mod random;
 mod request;
 
