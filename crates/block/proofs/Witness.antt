@@ -12,7 +12,7 @@ use Rattle.whole.specs.Clip.{clip}
 use Rattle.transform.specs.Forward.{forward}
 use Rattle.transform.specs.Inverse.{inverse}
 use Rattle.predict.specs.Samples.{bitOf, mask}
-use Rattle.predict.specs.Rules.{predicted}
+use Rattle.predict.specs.Rules.{vertical, horizontal, downLeft, downRight, verticalRight, verticalLeft, horizontalUp, predicted}
 use Rattle.predict.specs.Choice.{at, sad, bestOf, chosen}
 use Rattle.residual.specs.Levels.{quantized}
 use Rattle.residual.specs.Order.{inZigzag, inPlaces}
@@ -39,3 +39,8 @@ example-levels = refl
 pub rebuilt-is-not-original : codedSamples 28 (mask (replicate 13 77) 0) (replicate 16 138) ≡ replicate 16 136
 unfolding chosen bestOf fold sad total predicted bitOf grid tab residualOf forward quantized levelBy inZigzag inPlaces scaledBy rescaled inverse added samplesOf clip
 rebuilt-is-not-original = refl
+
+-- "All neighbours and all samples 100: mode 0, SAD 0"
+pub vertical-chosen : chosen (mask (replicate 13 100) 15) (replicate 16 100) ≡ at 0 0
+unfolding chosen bestOf fold sad total predicted bitOf grid tab vertical horizontal downLeft downRight verticalRight verticalLeft horizontalUp
+vertical-chosen = refl

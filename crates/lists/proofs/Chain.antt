@@ -1,17 +1,15 @@
 -- The law of a chain of tests: refused exactly if a test fails and all before it pass, passed exactly if all pass.
 --     AllPass, RefusedWith, ExactlyIf, chain-exactly-if
 --     chain-passed, chain-refused     a chain behind a chain
---     chain-parts                     chains one behind the other that all pass
 --     written-passed, written-refused     what an output holds at exit, by the verdict
 -- Assumes nothing.
 use mathlib.Core.Path.{_≡_, refl, sym, ap, _∙_}
 use mathlib.Core.Bool.{Bool, true, false, cond}
 use mathlib.Core.Logic.{_⊎_, inl, inr, _↔_}
 use mathlib.Core.List.{List, [], _∷_, _++_}
-use Prim.Native.Nat.{ℕ, zero, suc, _<_}
+use Prim.Native.Nat.{ℕ}
 use native.Mathlib.Omega.{arith}
 use Rattle.lists.specs.Chain.{Test, Verdict, pass, stop, chain, written}
-use Rattle.lists.specs.Parts.{parts}
 
 module _ {R : Type 0} where
   -- every test passes
@@ -24,7 +22,7 @@ module _ {R : Type 0} where
   RefusedWith [] r = ⊥
   RefusedWith (t ∷ ts) r = ((t .passes ≡ false) × (r ≡ t .refusal)) ⊎ ((t .passes ≡ true) × RefusedWith ts r)
 
-  pass-not-stop : {r : R} → pass ≡ stop r → ⊥
+  pub pass-not-stop : {r : R} → pass ≡ stop r → ⊥
   pass-not-stop e = let z : _≡_ {A = ℕ} 0 1 = cc in omega arith
 
   stop-inner : {r s : R} → stop r ≡ stop s → s ≡ r
@@ -68,11 +66,6 @@ module _ {R : Type 0} where
       by : (chain ts ≡ stop r → chain (ts ++ us) ≡ stop r) → RefusedWith (t ∷ ts) r → chain (t ∷ (ts ++ us)) ≡ stop r
       by rest (inl h) = rw (h .0, h .1)
       by rest (inr h) = rw (h .0) (rest (refused-if ts r (h .1)))
-
-  pub chain-parts : (n : ℕ) (f : ℕ → List (Test R)) → ((k : ℕ) → k < n → chain (f k) ≡ pass) → chain (parts n f) ≡ pass
-  unfolding parts
-  chain-parts zero f h = refl
-  chain-parts (suc n) f h = chain-passed (parts n f) (f n) (chain-parts n f (λ k l. h k (omega arith))) ∙ h n (omega arith)
 
   -- both halves, of a chain
   pub record ExactlyIf (ts : List (Test R)) (v : Verdict R) : Type 0 where

@@ -1,6 +1,7 @@
 pub mod Alike
 pub mod Bytes
 pub mod Chain
+pub mod Chains
 pub mod Every
 pub mod First
 pub mod Fold

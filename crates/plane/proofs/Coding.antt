@@ -1,5 +1,5 @@
 -- What the coder computes of a block, of a macroblock and of a file is what the definitions say.
---     block-coded                                    a block by value, of the flags, neighbours and samples that the code has read
+--     block-coded, turn-coded                        a block by value, of the flags, neighbours and samples that the code has read; stored
 --     modes-small                                    of any macroblock: modes fit four bits
 --     BlocksCoded: blocks-none, blocks-more, blocks-done     the loop over the blocks of a macroblock
 --     macroblock-coded                               its record
@@ -32,7 +32,7 @@ use Rattle.record.specs.Records.{summed, frontOf, headOf}
 use Rattle.record.proofs.Levels.{length-levels}
 use Rattle.record.proofs.Back.{length-head, levels-parts, sealed}
 use Rattle.picture.specs.declared.Layout.{Layout}
-use Rattle.picture.specs.Plane.{samplesOf, blockOf, gathered, turn}
+use Rattle.picture.specs.Plane.{samplesOf, blockOf, withBlock, gathered, turn}
 use Rattle.picture.specs.Presence.{flagsOf}
 use Rattle.picture.proofs.Start.{length-turn, length-turns}
 use Rattle.plane.specs.Code.{modeFrom, levelsFrom, samplesFrom, seen, modesFrom, blocksFrom, recordFrom, planeBefore, fileFrom, planeFrom}
@@ -60,6 +60,12 @@ block-coded l qp original m b plane x {flags} {n} {s} is-f is-n is-s c =
       levels-fit = λ k. fits (here (each-at 32767 (x .levels) (c .small) k)) tt;
       samples = d .rebuilt;
     }
+
+-- what has been stored is the block's turn
+pub turn-coded : (l : Layout) (qp : ℕ) (original : List ℕ) (m b : ℕ) (plane : List ℕ) (x : Block) → BlockCoded l qp original m b (gathered 4 l m b plane) x
+    → {s after : List ℕ} → after ≡ withBlock l m b s plane → s ≡ x .rebuilt → after ≡ turn (samplesFrom l qp original) l m b plane
+unfolding turn
+turn-coded l qp original m b plane x c e g = e ∙ ap (λ (v : List ℕ). withBlock l m b v plane) (g ∙ c .samples)
 
 module _ (l : Layout) (qp : ℕ) (original : List ℕ) (m : ℕ) where
   mode-small : (b : ℕ) (neighbours : List ℕ) → modeFrom l original m b neighbours < 16

@@ -14,7 +14,7 @@ use Rattle.lists.specs.Chain.{Verdict, pass, chain, written}
 use Rattle.lists.specs.Fold.{fold}
 use Rattle.lists.specs.Parts.{parts}
 use Rattle.lists.proofs.Bytes.{Bytes, bytes-tab}
-use Rattle.lists.proofs.Chain.{chain-parts}
+use Rattle.lists.proofs.Chains.{chain-parts}
 use Rattle.lists.proofs.Fold.{fold-follow}
 use Rattle.refusal.specs.declared.Answer.{Answer}
 use Rattle.refusal.specs.declared.Answer.the-variants.{Done}

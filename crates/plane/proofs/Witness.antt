@@ -3,12 +3,14 @@
 --     modes-before-ranges      block 15's mode is no mode and block 0's first number lies too far: MODE, place 15
 --     place-by-sixteen         the same in record 3 of a picture of 2 by 2: place 63
 --     refusal-writes-nothing   a file of no byte leaves the plane as it was
+--     length-before-quantizer  QP 52 and no plane: LENGTH
+--     one-is-accepted          a picture of one macroblock at QP 51 is coded, not refused
 -- Assumes nothing.
 use mathlib.Core.Path.{_≡_, refl}
 use mathlib.Core.List.{List, [], _∷_, _++_}
 use Prim.Native.Nat.{ℕ}
 use lib.ListN.{replicate, set}
-use Rattle.lists.specs.Chain.{chain}
+use Rattle.lists.specs.Chain.{pass, chain}
 use Rattle.lists.specs.First.{first}
 use Rattle.lists.specs.Tab.{tab}
 use Rattle.refusal.specs.Number.{number, place}
@@ -21,11 +23,13 @@ use Rattle.predict.specs.Rules.{permitted}
 use Rattle.residual.specs.Order.{inZigzag, inPlaces}
 use Rattle.residual.specs.Rebuild.{added, samplesOf}
 use Rattle.residual.specs.Rescale.{scaledBy, rescaled}
+use Rattle.record.specs.Entry.{sizeHolds}
 use Rattle.record.specs.Records.{blockIn}
 use Rattle.picture.specs.Order as order
 use Rattle.picture.specs.Order.{blockTable, tablePlace, columnIn, rowIn, blockColumn, blockRow, orderAt}
 use Rattle.picture.specs.Presence.{present, presentAt, flagsOf}
 use Rattle.plane.specs.Content.{layoutOf, modeHolds, rescaledIn, rangeHolds, firstMode, firstRange, contentTests}
+use Rattle.plane.specs.Code.{codePlaneTests}
 use Rattle.plane.specs.Decode.{Decodes}
 
 -- a record of DC blocks, all levels 0 but the first: its QP, the last byte of its modes, and the high byte and the low byte of that level
@@ -51,3 +55,11 @@ place-by-sixteen = refl
 
 pub refusal-writes-nothing : (r : Answer) (after : List ℕ) → Decodes [] (7 ∷ []) r after → after ≡ 7 ∷ []
 refusal-writes-nothing r after p = p .wrote
+
+pub length-before-quantizer : number (chain (codePlaneTests 1 1 52 [] [] [])) ≡ 1
+unfolding sizeHolds
+length-before-quantizer = refl
+
+pub one-is-accepted : chain (codePlaneTests 1 1 51 (replicate 256 138) (replicate 535 7) (replicate 256 7)) ≡ pass
+unfolding sizeHolds
+one-is-accepted = refl

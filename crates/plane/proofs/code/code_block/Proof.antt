@@ -1,12 +1,10 @@
 -- `plane::code::code_block` meets its contract: a block coded beside its neighbours in the rebuilt plane. Assumes nothing.
-use mathlib.Core.Path.{sym, ap, _∙_}
-use mathlib.Core.List.{List}
-use Prim.Native.Nat.{ℕ}
+use mathlib.Core.Path.{refl, ap, _∙_}
 use borrow.Author.Needs.{needs}
 use Rattle.record.specs.Numbers.{levelBytes}
-use Rattle.picture.specs.Plane.{withBlock, gathered, turn}
+use Rattle.picture.specs.Plane.{gathered}
 use Rattle.plane.specs.Content.{layoutOf}
-use Rattle.plane.proofs.Coding.{BlockCoded, block-coded}
+use Rattle.plane.proofs.Coding.{BlockCoded, block-coded, turn-coded}
 use Rattle.plane.proofs.code.code_block.Statement.{statement}
 use Rattle.plane.proofs.code.code_block.Tie as tie
 
@@ -26,18 +24,16 @@ write-levels-requires : tie.Need-write-levels-requires
 write-levels-requires c κs = (search needs, made (c .before .before .before) .levels-fit)
 
 returns : tie.Need-returns
-unfolding turn
 returns c =
     let S = c .before .before in
     let W = S .before .before .before .before in
     let C = W .before .before .before .before in
     let s = C .before .before .before .before .before .before .before .before .before .before in
-    let l = layoutOf (s .args .width) (s .args .height) in
     let x = made C in (
       x .mode,
       (
         W .write-levels .ensures ∙ ap levelBytes (x .levels),
-        S .store-block .ensures ∙ ap (λ (v : List ℕ). withBlock l (s .args .m) (s .args .b) v (s .args .rebuilt .now)) (x .samples),
+        turn-coded _ _ (s .args .plane .now) _ _ (s .args .rebuilt .now) (C .coded .result) x (S .store-block .ensures) refl,
       ),
     )
 

@@ -4,6 +4,7 @@ use mathlib.Core.List.{List}
 use Prim.Native.Nat.{ℕ, _+_, _-_, _*_, _≤_, _<_}
 use native.Mathlib.Omega.{arith}
 use borrow.Author.Needs.{needs}
+use Rattle.lists.proofs.Chains.{chain-none, chain-one, chain-stop}
 use Rattle.lists.specs.Chain.{chain, pass, Test}
 use Rattle.lists.specs.Parts.{parts}
 use Rattle.refusal.specs.Number.{said}
@@ -11,7 +12,7 @@ use Rattle.refusal.specs.declared.Refusal.{Refusal}
 use Rattle.picture.proofs.Plane.{samples-fit}
 use Rattle.plane.specs.Content.{layoutOf, contentTests}
 use Rattle.plane.specs.Decode.{recordIn}
-use Rattle.plane.proofs.Files.{parts-none, parts-one, parts-stop, part-is}
+use Rattle.plane.proofs.Files.{part-is}
 use Rattle.plane.proofs.content.contents.Statement.{statement}
 use Rattle.plane.proofs.content.contents.Tie as tie
 
@@ -32,7 +33,7 @@ mul-count : tie.Need-mul-count Inv-loop μ-loop
 mul-count c = let f = small (c .before) in omega arith
 
 loop-holds : tie.Need-loop-holds Inv-loop μ-loop
-loop-holds c = (search needs, parts-none _)
+loop-holds c = (search needs, chain-none _)
 
 mul-at : tie.Need-mul-at Inv-loop μ-loop
 mul-at c = let f = small (c .before .before .before) in omega arith
@@ -77,7 +78,7 @@ returns c =
     let T = C .before .before in
     let L = T .before in
     let a = L .before .before .args in
-    sym (parts-stop (tests (a .width) (a .height) (a .file .now)) (a .width * a .height) (L .loop .m) _ (T .loop-test .taken) (L .loop .inv .1) (sym (tested C) ∙ ap said (c .before .refusal .given .1)))
+    sym (chain-stop (tests (a .width) (a .height) (a .file .now)) (a .width * a .height) (L .loop .m) _ (T .loop-test .taken) (L .loop .inv .1) (sym (tested C) ∙ ap said (c .before .refusal .given .1)))
 
 enum-told : tie.Need-enum-told Inv-loop μ-loop
 enum-told c = search needs
@@ -94,7 +95,7 @@ loop-again c =
     let T = C .before .before in
     let L = T .before in
     let a = L .before .before .args in
-    (search needs, parts-one (tests (a .width) (a .height) (a .file .now)) (L .loop .m) (L .loop .inv .1) ∙ sym (tested C) ∙ ap said (c .enum-told .given .1))
+    (search needs, chain-one (tests (a .width) (a .height) (a .file .now)) (L .loop .m) (L .loop .inv .1) ∙ sym (tested C) ∙ ap said (c .enum-told .given .1))
 
 returns-2 : tie.Need-returns-2 Inv-loop μ-loop
 returns-2 c =

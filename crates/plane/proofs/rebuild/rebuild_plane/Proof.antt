@@ -6,13 +6,14 @@ use native.Mathlib.Omega.{arith}
 use borrow.Author.Needs.{needs}
 use lib.ListN.{length, take, drop}
 use Rattle.lists.specs.Chain.{chain, pass}
+use Rattle.lists.proofs.Chains.{chain-pass}
 use Rattle.lists.specs.Fold.{fold}
 use Rattle.lists.proofs.Fold.{Folding, folding-none, folding-more, folding-done}
 use Rattle.picture.specs.Plane.{samplesOf, turn, allTurns}
 use Rattle.picture.proofs.Plane.{samples-fit}
 use Rattle.plane.specs.Content.{layoutOf, contentTests}
 use Rattle.plane.specs.Decode.{recordIn, blockFrom, rebuiltFrom}
-use Rattle.plane.proofs.Files.{parts-pass, part-is, own-turns}
+use Rattle.plane.proofs.Files.{part-is, own-turns}
 use Rattle.plane.proofs.rebuild.rebuild_plane.Statement.{statement}
 use Rattle.plane.proofs.rebuild.rebuild_plane.Tie as tie
 
@@ -62,7 +63,7 @@ rebuild-macroblock-requires c κs =
     let a = s .args in
     let l = layoutOf (a .width) (a .height) in
     let part = part-is l (a .file .now) (s .pre .0 .1) (L .loop .m) (T .loop-test .taken) in
-    let tested = parts-pass (λ m. contentTests l m (recordIn (a .file .now) m)) (a .width * a .height) (L .loop .m) (T .loop-test .taken) (s .pre .1) in
+    let tested = chain-pass (λ m. contentTests l m (recordIn (a .file .now) m)) (a .width * a .height) (L .loop .m) (T .loop-test .taken) (s .pre .1) in
     ((record { sound = s .pre .0 .0; macroblock = T .loop-test .taken; block = omega arith }, search needs, L .loop .inv .0), ap (λ (p : List ℕ). chain (contentTests l (L .loop .m) p)) part ∙ tested)
 
 add-m : tie.Need-add-m Inv-loop μ-loop
