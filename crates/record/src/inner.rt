@@ -14,7 +14,7 @@ ghost use Rattle.record.specs.Records.{summed, headOf, frontOf, numberIn
 use crate::Fault;
 use crate::Form;
 use crate::Walk;
-use crate::bytes;
+use crate::octets;
 use refusal::Refusal;
 
 // 48 44
@@ -52,7 +52,7 @@ pub fn write_head(width: u16, height: u16, head: &mut [u8])
     head[3] = (width % 256) as u8;
     head[4] = (height / 256) as u8;
     head[5] = (height % 256) as u8;
-    bytes::write_sum(head);
+    octets::write_sum(head);
 }
 
 // A block's sixteen levels, in zigzag order, into their 32 bytes.
@@ -61,7 +61,7 @@ pub fn write_levels(levels: [i32; 16], out: &mut [u8])
     ensures { λ _. ⌜ now (out .exit) ≡ levelBytes levels ⌝ }
 {
     for k in 0usize..16 {
-        let bits = bytes::bits_of(levels[k]);
+        let bits = octets::bits_of(levels[k]);
         out[2 * k] = (bits / 256) as u8;
         out[2 * k + 1] = (bits % 256) as u8;
     }
@@ -78,7 +78,7 @@ fn write_front(number: u16, qp: u8, modes: [u8; 16], front: &mut [u8])
     front[3] = (number % 256) as u8;
     front[4] = qp;
     for k in 0usize..8 {
-        front[5 + k] = bytes::pack(modes[2 * k], modes[2 * k + 1]);
+        front[5 + k] = octets::pack(modes[2 * k], modes[2 * k + 1]);
     }
 }
 
@@ -88,7 +88,7 @@ pub fn seal(number: u16, qp: u8, modes: [u8; 16], part: &mut [u8])
     ensures { λ _. ⌜ now (part .exit) ≡ summed (frontOf number qp modes ++ take 512 (drop 13 (now (part .entry)))) ⌝ }
 {
     write_front(number, qp, modes, &mut part[0..13]);
-    bytes::write_sum(part);
+    octets::write_sum(part);
 }
 
 // ---- reading
@@ -97,7 +97,7 @@ pub fn number(part: &[u8]) -> u16
     requires { ⌜ 3 < length (now part) ⌝ }
     ensures { λ r. ⌜ r ≡ numberIn (now (part .entry)) ⌝ }
 {
-    bytes::number_at(part, 2)
+    octets::number_at(part, 2)
 }
 
 pub fn qp(part: &[u8]) -> u8
@@ -112,7 +112,7 @@ pub fn mode(part: &[u8], block: usize) -> u8
     requires { ⌜ (length (now part) ≡ 527) × (block < 16) ⌝ }
     ensures { λ r. ⌜ r ≡ modeIn block (now (part .entry)) ⌝ }
 {
-    bytes::unpack(part[5 + block / 2], block)
+    octets::unpack(part[5 + block / 2], block)
 }
 
 // Level k of a block, in zigzag order.
@@ -120,7 +120,7 @@ pub fn level(part: &[u8], block: usize, k: usize) -> i32
     requires { ⌜ (length (now part) ≡ 527) × (block < 16) × (k < 16) ⌝ }
     ensures { λ r. ⌜ r ≡ levelIn block k (now (part .entry)) ⌝ }
 {
-    bytes::level_of(bytes::number_at(part, 13 + 32 * block + 2 * k))
+    octets::level_of(octets::number_at(part, 13 + 32 * block + 2 * k))
 }
 
 // The sixteen levels of a block, in zigzag order.
@@ -153,13 +153,13 @@ pub fn form(part: &[u8], number: usize) -> Form
     requires { ⌜ 3 < length (now part) ⌝ }
     ensures { λ r. ⌜ formSaid r ≡ chain (formTests number (now (part .entry))) ⌝ }
 {
-    if bytes::number_at(part, 0) != MACROBLOCK_MARK {
+    if octets::number_at(part, 0) != MACROBLOCK_MARK {
         return Form::Faulty(Fault::Mark);
     }
-    if (bytes::number_at(part, 2) as usize) != number {
+    if (octets::number_at(part, 2) as usize) != number {
         return Form::Faulty(Fault::Number);
     }
-    if !bytes::sum_holds(part) {
+    if !octets::sum_holds(part) {
         return Form::Faulty(Fault::Sum);
     }
     Form::Fine

@@ -2,8 +2,8 @@
 ghost use Rattle.record.specs.Entry.{ReadsHead};
 use refusal::Refusal;
 
-mod bytes;
 pub mod inner;
+mod octets;
 
 // What can be wrong with a record's form.
 pub enum Fault {
@@ -37,14 +37,14 @@ pub fn read_head(file: &[u8]) -> Head
     if file.len() < 8 {
         return Head::Refused(Refusal::Form(0));
     }
-    if bytes::number_at(file, 0) != inner::HEAD_MARK {
+    if octets::number_at(file, 0) != inner::HEAD_MARK {
         return Head::Refused(inner::refusal(Fault::Mark, 0));
     }
-    if !bytes::sum_holds(&file[..8]) {
+    if !octets::sum_holds(&file[..8]) {
         return Head::Refused(inner::refusal(Fault::Sum, 0));
     }
-    let width = bytes::number_at(file, 2) as usize;
-    let height = bytes::number_at(file, 4) as usize;
+    let width = octets::number_at(file, 2) as usize;
+    let height = octets::number_at(file, 4) as usize;
     if !inner::size_holds(width, height) {
         return Head::Refused(Refusal::Size);
     }

@@ -1,0 +1,54 @@
+-- What a word tells a caller.
+--     number-told     the low byte is the number of the paper's table, 0 on success
+--     place-told      above it a refusal has its place, up to 2^56
+--     value-told      above it a success has its value
+--     done-exactly-if, refused-word     the low byte is 0 exactly if all tests pass; the word of the first test that fails
+-- Assumes nothing.
+use mathlib.Core.Path.{_≡_, refl, ap, _∙_}
+use mathlib.Core.List.{List}
+use mathlib.Core.Logic.{_↔_}
+use Prim.Native.Nat.{ℕ, _+_, _*_, _/_, _%_, _<_}
+use native.Mathlib.Omega.{arith}
+use Rattle.lists.specs.Chain.{Test, Verdict, pass, stop, chain}
+use Rattle.lists.proofs.Chain.{AllPass, RefusedWith, chain-exactly-if}
+use Rattle.refusal.specs.Number.{number, numberOf, placeOf}
+use Rattle.refusal.specs.declared.Refusal.{Refusal}
+use Rattle.refusal.specs.declared.Refusal.the-variants.{Length, Size, Flags, Quantizer, Mode, Residual, Level, Range, Own, Form}
+use Rattle.fleecebutton.specs.Word.{places, wordOf}
+
+-- a refusal's number is a byte, and not that of success
+number-small : (r : Refusal) → (numberOf r < 256) × (0 < numberOf r)
+number-small Length = (omega arith, omega arith)
+number-small Size = (omega arith, omega arith)
+number-small (Flags k) = (omega arith, omega arith)
+number-small (Quantizer k) = (omega arith, omega arith)
+number-small (Mode k) = (omega arith, omega arith)
+number-small (Residual k) = (omega arith, omega arith)
+number-small (Level k) = (omega arith, omega arith)
+number-small (Range k) = (omega arith, omega arith)
+number-small (Own k) = (omega arith, omega arith)
+number-small (Form k) = (omega arith, omega arith)
+
+pub number-told : (v : Verdict Refusal) (value : ℕ) → wordOf v value % 256 ≡ number v
+number-told pass value = omega arith
+number-told (stop r) value = omega (arith, number-small r .0)
+
+pub place-told : (r : Refusal) (value : ℕ) → wordOf (stop r) value / 256 ≡ placeOf r % places
+place-told r value = omega (arith, number-small r .0)
+
+pub value-told : (value : ℕ) → wordOf pass value / 256 ≡ value
+value-told value = omega arith
+
+-- a word whose low byte is 0 is that of a success
+done : (v : Verdict Refusal) (value : ℕ) → wordOf v value % 256 ≡ 0 → v ≡ pass
+done pass value e = refl
+done (stop r) value e = absurd (omega (arith, number-told (stop r) value, number-small r .1))
+
+pub done-exactly-if : (ts : List (Test Refusal)) (value : ℕ) → (wordOf (chain ts) value % 256 ≡ 0) ↔ AllPass ts
+done-exactly-if ts value = (
+  λ e. chain-exactly-if ts .passes .0 (done (chain ts) value e),
+  λ h. ap (λ (v : Verdict Refusal). wordOf v value % 256) (chain-exactly-if ts .passes .1 h) ∙ number-told pass value,
+)
+
+pub refused-word : (ts : List (Test Refusal)) (value : ℕ) (r : Refusal) → RefusedWith ts r → wordOf (chain ts) value ≡ numberOf r + 256 * (placeOf r % places)
+refused-word ts value r h = ap (λ (v : Verdict Refusal). wordOf v value) (chain-exactly-if ts .refuses r .1 h)

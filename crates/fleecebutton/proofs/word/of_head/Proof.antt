@@ -1,0 +1,44 @@
+-- `fleecebutton::word::of_head` meets its contract: the word of either case; a size within 128 fits. Assumes nothing.
+use mathlib.Core.Path.{_≡_, sym, ap, subst, _∙_}
+use Prim.Native.Nat.{ℕ, _≤_}
+use native.Mathlib.Omega.{arith}
+use borrow.Author.Needs.{needs}
+use Rattle.record.specs.Entry.{said, widthOf, heightOf}
+use Rattle.record.specs.declared.Head.{Head}
+use Rattle.fleecebutton.specs.Word.{wordOf, sizeValue}
+use Rattle.fleecebutton.proofs.word.of_head.Statement.{statement}
+use Rattle.fleecebutton.proofs.word.of_head.Tie as tie
+
+of-case : {a b : Head} {w : ℕ} → a ≡ b → w ≡ wordOf (said b) (sizeValue (widthOf b) (heightOf b)) → w ≡ wordOf (said a) (sizeValue (widthOf a) (heightOf a))
+of-case e h = h ∙ ap (λ (a : Head). wordOf (said a) (sizeValue (widthOf a) (heightOf a))) (sym e)
+
+small : {a b : Head} → a ≡ b → (widthOf a ≤ 128) × (heightOf a ≤ 128) → (widthOf b ≤ 128) × (heightOf b ≤ 128)
+small e p = subst (λ (a : Head). (widthOf a ≤ 128) × (heightOf a ≤ 128)) e p
+
+mul-of-success : tie.Need-mul-of-success
+mul-of-success c = let s = small (c .before .head .given .1) (c .before .before .before .pre) in omega (arith, s .1)
+
+add-of-success : tie.Need-add-of-success
+add-of-success c = let s = small (c .before .head .given .1) (c .before .before .before .pre) in omega (arith, s .0, s .1)
+
+of-success-requires : tie.Need-of-success-requires
+of-success-requires c κs = let s = small (c .before .head .given .1) (c .before .before .before .pre) in omega (arith, s .0, s .1)
+
+returns : tie.Need-returns
+returns c = of-case (c .before .before .head .given .1) (c .of-success .ensures)
+
+returns-2 : tie.Need-returns-2
+returns-2 c = of-case (c .before .before .head2 .given .1) (c .of-refusal .ensures)
+
+pub of-head-spec : {M : Type 1} → statement M
+of-head-spec =
+    tie.close
+    (tie.spec
+    (λ c. search needs)
+    mul-of-success
+    add-of-success
+    of-success-requires
+    (λ c. search needs)
+    (λ c κs. search needs)
+    returns
+    returns-2)

@@ -1,0 +1,83 @@
+-- What each exported function sends back and writes: the tests, the value and the content of the entry point of its name, as that one's
+-- contract has them (`Entry` of its crate). w is the word. Assumes nothing.
+use mathlib.Core.Path.{_≡_}
+use mathlib.Core.List.{List}
+use Prim.Native.Nat.{ℕ}
+use lib.IntN.{ℤ}
+use lib.ListN.{length}
+use Rattle.lists.specs.Chain.{chain, written}
+use Rattle.predict.specs.Choice.{chosen}
+use Rattle.predict.specs.Entry.{predictTests, chooseTests, bestSamples}
+use Rattle.predict.specs.Rules as rules
+use Rattle.predict.specs.Samples.{mask}
+use Rattle.transform.specs.Entry as transform
+use Rattle.transform.specs.Forward.{forward}
+use Rattle.residual.specs.Entry.{levelsTests, rebuildTests, withDcTests}
+use Rattle.residual.specs.Levels.{levelsOf}
+use Rattle.residual.specs.Rebuild.{samplesOf, numbersOf, numbersWithDc}
+use Rattle.dc.specs.Dc.{lumaLevels, lumaValues, chromaLevels, chromaValues}
+use Rattle.dc.specs.Entry.{lumaLevelsTests, lumaValuesTests, chromaLevelsTests, chromaValuesTests}
+use Rattle.quantizer.specs.Chroma.{chromaTests, chromaOf}
+use Rattle.block.specs.Block.{codedLevels, codedSamples}
+use Rattle.block.specs.Entry.{codeTests}
+use Rattle.record.specs.Entry.{headTests, widthAt, heightAt}
+use Rattle.plane.specs.Content.{layoutOf}
+use Rattle.plane.specs.Code.{codePlaneTests, codedFile, codedPlane, over}
+use Rattle.plane.specs.Decode.{decodeTests, layoutIn, decoded}
+use Rattle.fleecebutton.specs.Word.{wordOf, choiceValue, sizeValue, Sends}
+
+abbrev pub PredictSends : (neighbours : List ℕ) (flags mode : ℕ) (before : List ℕ) (w : ℕ) (after : List ℕ) → Type 0
+PredictSends neighbours flags mode before w after =
+    Sends (predictTests neighbours flags mode before) 0 (rules.samplesOf (rules.predicted (mask neighbours flags) mode)) before w after
+
+abbrev pub ChooseSends : (neighbours : List ℕ) (flags : ℕ) (samples before : List ℕ) (w : ℕ) (after : List ℕ) → Type 0
+ChooseSends neighbours flags samples before w after =
+    let best = chosen (mask neighbours flags) samples in
+    Sends (chooseTests neighbours flags samples before) (choiceValue best) (bestSamples (mask neighbours flags) best) before w after
+
+abbrev pub ForwardSends : (residual before : List ℤ) (w : ℕ) (after : List ℤ) → Type 0
+ForwardSends residual before w after = Sends (transform.tests residual before) 0 (forward residual) before w after
+
+abbrev pub LevelsSends : (qp : ℕ) (residual before : List ℤ) (w : ℕ) (after : List ℤ) → Type 0
+LevelsSends qp residual before w after = Sends (levelsTests qp residual before) 0 (levelsOf qp residual) before w after
+
+abbrev pub RebuildSends : (qp : ℕ) (prediction : List ℕ) (levels : List ℤ) (before : List ℕ) (w : ℕ) (after : List ℕ) → Type 0
+RebuildSends qp prediction levels before w after =
+    Sends (rebuildTests qp prediction levels before) 0 (samplesOf prediction (numbersOf qp levels)) before w after
+
+abbrev pub RebuildWithDcSends : (qp : ℕ) (prediction : List ℕ) (dc : ℤ) (ac : List ℤ) (before : List ℕ) (w : ℕ) (after : List ℕ) → Type 0
+RebuildWithDcSends qp prediction dc ac before w after =
+    Sends (withDcTests qp prediction dc ac before) 0 (samplesOf prediction (numbersWithDc qp dc ac)) before w after
+
+abbrev pub LumaDcLevelsSends : (qp : ℕ) (dc before : List ℤ) (w : ℕ) (after : List ℤ) → Type 0
+LumaDcLevelsSends qp dc before w after = Sends (lumaLevelsTests qp dc before) 0 (lumaLevels qp dc) before w after
+
+abbrev pub LumaDcValuesSends : (qp : ℕ) (levels before : List ℤ) (w : ℕ) (after : List ℤ) → Type 0
+LumaDcValuesSends qp levels before w after = Sends (lumaValuesTests qp levels before) 0 (lumaValues qp levels) before w after
+
+abbrev pub ChromaDcLevelsSends : (qp : ℕ) (dc before : List ℤ) (w : ℕ) (after : List ℤ) → Type 0
+ChromaDcLevelsSends qp dc before w after = Sends (chromaLevelsTests qp dc before) 0 (chromaLevels qp dc) before w after
+
+abbrev pub ChromaDcValuesSends : (qp : ℕ) (levels before : List ℤ) (w : ℕ) (after : List ℤ) → Type 0
+ChromaDcValuesSends qp levels before w after = Sends (chromaValuesTests qp levels before) 0 (chromaValues qp levels) before w after
+
+abbrev pub ChromaQuantizerSends : (qp : ℕ) (offset : ℤ) (w : ℕ) → Type 0
+ChromaQuantizerSends qp offset w = w ≡ wordOf (chain (chromaTests qp offset)) (chromaOf qp offset)
+
+-- two outputs: levels and rebuilt samples, l and o at entry, l′ and o′ at exit
+pub record CodeBlockSends (qp flags : ℕ) (neighbours samples : List ℕ) (l : List ℤ) (o : List ℕ) (w : ℕ) (l′ : List ℤ) (o′ : List ℕ) : Type 0 where
+  pub word : w ≡ wordOf (chain (codeTests qp flags neighbours samples l o)) (choiceValue (chosen (mask neighbours flags) samples))
+  pub levels : l′ ≡ written (chain (codeTests qp flags neighbours samples l o)) (codedLevels qp (mask neighbours flags) samples) l
+  pub rebuilt : o′ ≡ written (chain (codeTests qp flags neighbours samples l o)) (codedSamples qp (mask neighbours flags) samples) o
+
+-- two outputs: the file area and the rebuilt plane, file and rebuilt at entry, file′ and rebuilt′ at exit; the value is the bytes used
+pub record CodePlaneSends (width height qp : ℕ) (plane file rebuilt : List ℕ) (w : ℕ) (file′ rebuilt′ : List ℕ) : Type 0 where
+  pub word : w ≡ wordOf (chain (codePlaneTests width height qp plane file rebuilt)) (length (codedFile (layoutOf width height) qp plane))
+  pub filed : file′ ≡ written (chain (codePlaneTests width height qp plane file rebuilt)) (over (codedFile (layoutOf width height) qp plane) file) file
+  pub stored : rebuilt′ ≡ written (chain (codePlaneTests width height qp plane file rebuilt)) (codedPlane (layoutOf width height) qp plane) rebuilt
+
+abbrev pub ReadHeadSends : (file : List ℕ) (w : ℕ) → Type 0
+ReadHeadSends file w = w ≡ wordOf (chain (headTests file)) (sizeValue (widthAt file) (heightAt file))
+
+abbrev pub DecodePlaneSends : (file before : List ℕ) (w : ℕ) (after : List ℕ) → Type 0
+DecodePlaneSends file before w after = Sends (decodeTests file before) 0 (decoded (layoutIn file) file) before w after

@@ -1,0 +1,165 @@
+// The codec for C: each function calls the entry point of its name and sends back one word (`word`, include/fleecebutton.h).
+ghost use Rattle.fleecebutton.specs.Sends.{
+  PredictSends,
+  ChooseSends,
+  ForwardSends,
+  LevelsSends,
+  RebuildSends,
+  RebuildWithDcSends,
+  LumaDcLevelsSends,
+  LumaDcValuesSends,
+  ChromaDcLevelsSends,
+  ChromaDcValuesSends,
+  ChromaQuantizerSends,
+  CodeBlockSends,
+  CodePlaneSends,
+  ReadHeadSends,
+  DecodePlaneSends,
+};
+
+mod word;
+
+// A mode's sixteen samples from the neighbours M, A to H, I to L.
+#[no_mangle]
+pub extern "C" fn fb_predict(neighbours: &[u8], flags: u8, mode: u8, out: &mut [u8]) -> u64
+    ensures { λ r. ⌜ PredictSends (now (neighbours .entry)) flags mode (now (out .entry)) r (now (out .exit)) ⌝ }
+{
+    word::of_answer(predict::predict(neighbours, flags, mode, out))
+}
+
+// The best mode's prediction; its mode + 16 * SAD is the word's value.
+#[no_mangle]
+pub extern "C" fn fb_choose(
+    neighbours: &[u8],
+    flags: u8,
+    samples: &[u8],
+    prediction: &mut [u8],
+) -> u64
+    ensures { λ r. ⌜ ChooseSends (now (neighbours .entry)) flags (now (samples .entry)) (now (prediction .entry)) r (now (prediction .exit)) ⌝ }
+{
+    word::of_chosen(predict::choose(neighbours, flags, samples, prediction))
+}
+
+// The coefficients of sixteen residuals.
+#[no_mangle]
+pub extern "C" fn fb_forward(residual: &[i32], coefficients: &mut [i32]) -> u64
+    ensures { λ r. ⌜ ForwardSends (now (residual .entry)) (now (coefficients .entry)) r (now (coefficients .exit)) ⌝ }
+{
+    word::of_answer(transform::forward(residual, coefficients))
+}
+
+// The levels of sixteen residuals, in zigzag order.
+#[no_mangle]
+pub extern "C" fn fb_levels(qp: u8, residual: &[i32], levels: &mut [i32]) -> u64
+    ensures { λ r. ⌜ LevelsSends qp (now (residual .entry)) (now (levels .entry)) r (now (levels .exit)) ⌝ }
+{
+    word::of_answer(residual::levels(qp, residual, levels))
+}
+
+// The samples of a prediction and sixteen levels in zigzag order.
+#[no_mangle]
+pub extern "C" fn fb_rebuild(qp: u8, prediction: &[u8], levels: &[i32], out: &mut [u8]) -> u64
+    ensures { λ r. ⌜ RebuildSends qp (now (prediction .entry)) (now (levels .entry)) (now (out .entry)) r (now (out .exit)) ⌝ }
+{
+    word::of_answer(residual::rebuild(qp, prediction, levels, out))
+}
+
+// The same where the DC comes rescaled, with fifteen AC levels in zigzag order.
+#[no_mangle]
+pub extern "C" fn fb_rebuild_with_dc(
+    qp: u8,
+    prediction: &[u8],
+    dc: i32,
+    ac: &[i32],
+    out: &mut [u8],
+) -> u64
+    ensures { λ r. ⌜ RebuildWithDcSends qp (now (prediction .entry)) dc (now (ac .entry)) (now (out .entry)) r (now (out .exit)) ⌝ }
+{
+    word::of_answer(residual::rebuild_with_dc(qp, prediction, dc, ac, out))
+}
+
+// The levels, in zigzag order, of a macroblock's sixteen luma DC values.
+#[no_mangle]
+pub extern "C" fn fb_luma_dc_levels(qp: u8, dc: &[i32], levels: &mut [i32]) -> u64
+    ensures { λ r. ⌜ LumaDcLevelsSends qp (now (dc .entry)) (now (levels .entry)) r (now (levels .exit)) ⌝ }
+{
+    word::of_answer(dc::luma_dc_levels(qp, dc, levels))
+}
+
+// The sixteen luma DC values, in raster order, of levels in zigzag order.
+#[no_mangle]
+pub extern "C" fn fb_luma_dc_values(qp: u8, levels: &[i32], dc: &mut [i32]) -> u64
+    ensures { λ r. ⌜ LumaDcValuesSends qp (now (levels .entry)) (now (dc .entry)) r (now (dc .exit)) ⌝ }
+{
+    word::of_answer(dc::luma_dc_values(qp, levels, dc))
+}
+
+// The levels of four chroma DC values, both in raster order.
+#[no_mangle]
+pub extern "C" fn fb_chroma_dc_levels(qp: u8, dc: &[i32], levels: &mut [i32]) -> u64
+    ensures { λ r. ⌜ ChromaDcLevelsSends qp (now (dc .entry)) (now (levels .entry)) r (now (levels .exit)) ⌝ }
+{
+    word::of_answer(dc::chroma_dc_levels(qp, dc, levels))
+}
+
+// The four chroma DC values of four levels, both in raster order.
+#[no_mangle]
+pub extern "C" fn fb_chroma_dc_values(qp: u8, levels: &[i32], dc: &mut [i32]) -> u64
+    ensures { λ r. ⌜ ChromaDcValuesSends qp (now (levels .entry)) (now (dc .entry)) r (now (dc .exit)) ⌝ }
+{
+    word::of_answer(dc::chroma_dc_values(qp, levels, dc))
+}
+
+// The chroma quantizer's number is the word's value.
+#[no_mangle]
+pub extern "C" fn fb_chroma_quantizer(qp: u8, offset: i32) -> u64
+    ensures { λ r. ⌜ ChromaQuantizerSends qp offset r ⌝ }
+{
+    word::of_quantizer(quantizer::chroma_quantizer(qp, offset))
+}
+
+// A block's levels and rebuilt samples; its mode + 16 * SAD is the word's value.
+#[no_mangle]
+pub extern "C" fn fb_code_block(
+    qp: u8,
+    flags: u8,
+    neighbours: &[u8],
+    samples: &[u8],
+    levels: &mut [i32],
+    rebuilt: &mut [u8],
+) -> u64
+    ensures { λ r. ⌜ CodeBlockSends qp flags (now (neighbours .entry)) (now (samples .entry)) (now (levels .entry)) (now (rebuilt .entry)) r (now (levels .exit)) (now (rebuilt .exit)) ⌝ }
+{
+    word::of_coded(block::code_block(qp, flags, neighbours, samples, levels, rebuilt))
+}
+
+// The record file of a plane, and the plane that a decoder rebuilds from it; the bytes used are the word's value.
+#[no_mangle]
+pub extern "C" fn fb_code_plane(
+    width: usize,
+    height: usize,
+    qp: u8,
+    plane: &[u8],
+    file: &mut [u8],
+    rebuilt: &mut [u8],
+) -> u64
+    ensures { λ r. ⌜ CodePlaneSends width height qp (now (plane .entry)) (now (file .entry)) (now (rebuilt .entry)) r (now (file .exit)) (now (rebuilt .exit)) ⌝ }
+{
+    word::of_plane(plane::code_plane(width, height, qp, plane, file, rebuilt))
+}
+
+// The size of the picture whose file this is: width + 256 * height is the word's value.
+#[no_mangle]
+pub extern "C" fn fb_read_head(file: &[u8]) -> u64
+    ensures { λ r. ⌜ ReadHeadSends (now (file .entry)) r ⌝ }
+{
+    word::of_head(record::read_head(file))
+}
+
+// The plane of a record file.
+#[no_mangle]
+pub extern "C" fn fb_decode_plane(file: &[u8], plane: &mut [u8]) -> u64
+    ensures { λ r. ⌜ DecodePlaneSends (now (file .entry)) (now (plane .entry)) r (now (plane .exit)) ⌝ }
+{
+    word::of_answer(plane::decode_plane(file, plane))
+}

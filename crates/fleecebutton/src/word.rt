@@ -1,0 +1,98 @@
+// The word that an exported function sends back: a success with its value, or a refusal with its number and place.
+ghost use mathlib.Core.Path.{_≡_};
+ghost use Prim.Native.Nat.{_+_, _*_, _<_, _≤_};
+ghost use Rattle.lists.specs.Chain.{pass, stop};
+ghost use Rattle.refusal.specs.Number.{said};
+ghost use Rattle.predict.specs.Entry.{saidChosen, bestIn};
+ghost use Rattle.block.specs.Entry.{saidCoded, bestCoded};
+ghost use Rattle.quantizer.specs.Range.{said as saidBuilt, qpOf};
+ghost use Rattle.record.specs.Entry.{said as saidHead, widthOf, heightOf};
+ghost use Rattle.plane.specs.Code.{saidPlane, bytesUsed};
+ghost use Rattle.fleecebutton.specs.Word.{places, wordOf, choiceValue, sizeValue};
+use block::Coded;
+use plane::CodedPlane;
+use predict::Chosen;
+use quantizer::Built;
+use record::Head;
+use refusal::Answer;
+use refusal::Refusal;
+
+// How many places a word can tell: 2^56, since its low byte is the number's.
+const PLACES: usize = 72057594037927936;
+
+fn of_success(value: u64) -> u64
+    requires { ⌜ value < places ⌝ }
+    ensures { λ r. ⌜ r ≡ wordOf pass value ⌝ }
+{
+    256 * value
+}
+
+fn of_refusal(refusal: Refusal) -> u64
+    ensures { λ r. ⌜ r ≡ wordOf (stop refusal) 0 ⌝ }
+{
+    let number = refusal::inner::number(refusal);
+    let place = refusal::inner::place(refusal) % PLACES;
+    number as u64 + 256 * (place as u64)
+}
+
+pub(crate) fn of_answer(answer: Answer) -> u64
+    ensures { λ r. ⌜ r ≡ wordOf (said answer) 0 ⌝ }
+{
+    match answer {
+        Answer::Done => of_success(0),
+        Answer::Refused(refusal) => of_refusal(refusal),
+    }
+}
+
+fn of_choice(mode: u8, sad: u32) -> u64
+    ensures { λ r. ⌜ r ≡ wordOf pass (mode + 16 * sad) ⌝ }
+{
+    of_success(mode as u64 + 16 * (sad as u64))
+}
+
+pub(crate) fn of_chosen(chosen: Chosen) -> u64
+    ensures { λ r. ⌜ r ≡ wordOf (saidChosen chosen) (choiceValue (bestIn chosen)) ⌝ }
+{
+    match chosen {
+        Chosen::Mode(mode, sad) => of_choice(mode, sad),
+        Chosen::Refused(refusal) => of_refusal(refusal),
+    }
+}
+
+pub(crate) fn of_coded(coded: Coded) -> u64
+    ensures { λ r. ⌜ r ≡ wordOf (saidCoded coded) (choiceValue (bestCoded coded)) ⌝ }
+{
+    match coded {
+        Coded::Mode(mode, sad) => of_choice(mode, sad),
+        Coded::Refused(refusal) => of_refusal(refusal),
+    }
+}
+
+pub(crate) fn of_quantizer(built: Built) -> u64
+    ensures { λ r. ⌜ r ≡ wordOf (saidBuilt built) (qpOf built) ⌝ }
+{
+    match built {
+        Built::Legal(quantizer) => of_success(quantizer.number() as u64),
+        Built::Refused(refusal) => of_refusal(refusal),
+    }
+}
+
+pub(crate) fn of_head(head: Head) -> u64
+    requires { ⌜ (widthOf head ≤ 128) × (heightOf head ≤ 128) ⌝ }
+    ensures { λ r. ⌜ r ≡ wordOf (saidHead head) (sizeValue (widthOf head) (heightOf head)) ⌝ }
+{
+    match head {
+        Head::Legal(width, height) => of_success((width + 256 * height) as u64),
+        Head::Refused(refusal) => of_refusal(refusal),
+    }
+}
+
+pub(crate) fn of_plane(coded: CodedPlane) -> u64
+    requires { ⌜ bytesUsed coded < places ⌝ }
+    ensures { λ r. ⌜ r ≡ wordOf (saidPlane coded) (bytesUsed coded) ⌝ }
+{
+    match coded {
+        CodedPlane::Bytes(used) => of_success(used as u64),
+        CodedPlane::Refused(refusal) => of_refusal(refusal),
+    }
+}

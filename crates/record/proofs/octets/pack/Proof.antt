@@ -1,0 +1,10 @@
+-- `record::octets::pack` meets its contract: the second mode is shifted above the first. Assumes nothing.
+use Rattle.record.proofs.Modes.{shifted-up}
+use Rattle.record.proofs.octets.pack.Statement.{statement}
+use Rattle.record.proofs.octets.pack.Tie as tie
+
+returns : tie.Need-returns
+returns c = shifted-up (c .args .low) (c .args .high) (c .pre .0) (c .pre .1)
+
+pub pack-spec : {M : Type 1} → statement M
+pack-spec = tie.close (tie.spec returns)

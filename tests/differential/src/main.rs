@@ -1,0 +1,60 @@
+//! Compares every exported function of the proved library with the reference on many inputs. The library runs in a process of
+//! its own, `tests/peer`, since it is x86-64 code and this program runs on any processor.
+//!
+//! differential COMMAND..: the command runs the peer.
+
+mod blocks;
+mod files;
+mod functions;
+mod peer;
+mod planes;
+mod random;
+mod request;
+
+use std::collections::BTreeMap;
+use std::env;
+use std::process::ExitCode;
+use std::time::Instant;
+
+fn main() -> ExitCode {
+    let command: Vec<String> = env::args().skip(1).collect();
+    if command.is_empty() {
+        eprintln!("differential COMMAND..: the command runs tests/peer");
+        return ExitCode::from(2);
+    }
+    let started = Instant::now();
+    for (number, function) in functions::ALL.iter().enumerate() {
+        let outcome = peer::compare(&command, number as u32, function)
+            .and_then(|seen| all_seen(function, &seen));
+        match outcome {
+            Ok(line) => println!("{}: {line}", function.name),
+            Err(difference) => {
+                println!("{}: {difference}", function.name);
+                return ExitCode::FAILURE;
+            }
+        }
+    }
+    println!(
+        "differential: {} functions agree with the reference, {:.0} s",
+        functions::ALL.len(),
+        started.elapsed().as_secs_f64()
+    );
+    ExitCode::SUCCESS
+}
+
+/// How often each outcome came, as text; an outcome that never came is a hole in the inputs.
+fn all_seen(function: &functions::Function, seen: &BTreeMap<u8, usize>) -> Result<String, String> {
+    if let Some(number) = function
+        .outcomes
+        .iter()
+        .find(|number| !seen.contains_key(number))
+    {
+        return Err(format!("no input of these came to the outcome {number}"));
+    }
+    let total: usize = seen.values().sum();
+    let counts: Vec<String> = seen
+        .iter()
+        .map(|(number, count)| format!("{count} {}", request::outcome(*number)))
+        .collect();
+    Ok(format!("{total} inputs, {}", counts.join(", ")))
+}

@@ -1,0 +1,2 @@
+/* See stdint.h. */
+typedef __SIZE_TYPE__ size_t;
