@@ -147,13 +147,12 @@ fn sizes_at(qp: u8) -> usize
     print::words(b"QP ");
     print::number(qp as usize);
     print::words(b":");
-    let lines = trip(1, 1, qp) + trip(2, 1, qp) + trip(1, 3, qp);
-    let right = lines + trip(3, 2, qp) + trip(4, 4, qp);
+    let right = trip(1, 1, qp) + trip(2, 1, qp) + trip(1, 3, qp) + trip(3, 2, qp) + trip(4, 4, qp);
     print::words(b"\n");
     right
 }
 
-// The file area and the planes of this size, each with other bytes before.
+// 1 if coder and decoder agree on a plane of this size, into rooms of just its lengths that hold other bytes before.
 fn trip(width: usize, height: usize, qp: u8) -> usize
     requires { ⌜ width * height ≤ 16 ⌝ }
     ensures { λ r. ⌜ r ≤ 1 ⌝ }
@@ -179,7 +178,7 @@ fn trip(width: usize, height: usize, qp: u8) -> usize
     )
 }
 
-// 1 if all of the file is used and the decoder rebuilds from it what the coder rebuilt.
+// All of the file is used, and the decoder rebuilds from it what the coder rebuilt.
 fn agree(
     width: usize,
     height: usize,
