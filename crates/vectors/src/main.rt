@@ -1,4 +1,5 @@
 // Runs vectors through the entry points and prints a line a group. `.ci/run` holds what it prints to the file `stdout`.
+mod coding;
 mod dc_paths;
 mod planes;
 mod predictions;
@@ -18,4 +19,5 @@ fn main() {
     records::run();
     recorded::run();
     planes::run();
+    coding::run();
 }

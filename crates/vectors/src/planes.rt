@@ -48,7 +48,7 @@ fn coded() {
 }
 
 // The bytes of a file, and how many there are: at most as many as there is room.
-fn read(name: &[u8], room: &mut [u8]) -> usize
+pub(crate) fn read(name: &[u8], room: &mut [u8]) -> usize
     ensures { λ r. ⌜ r ≤ length (now (room .exit)) ⌝ }
 {
     let file = os::open_read(name);
@@ -82,7 +82,7 @@ fn decoded(file: &[u8], plane: &mut [u8]) {
     print::answer(plane::decode_plane(file, plane));
 }
 
-fn same(plane: &[u8], expected: &[u8], samples: usize)
+pub(crate) fn same(plane: &[u8], expected: &[u8], samples: usize)
     requires { ⌜ samples ≤ length (now plane) ⌝ }
     requires { ⌜ samples ≤ length (now expected) ⌝ }
 {
