@@ -14,6 +14,7 @@ use lib.ListN.{getD}
 use Rattle.lists.specs.First.{first}
 use Rattle.lists.proofs.Every.{every-at, either, holds}
 use Rattle.picture.specs.Order.{blockTable, blockIn, tablePlace, columnIn, rowIn}
+use Rattle.picture.specs.Reach.{early}
 
 pub block-lt : (u v : ℕ) → u < 4 → v < 4 → blockIn u v < 16
 unfolding blockIn blockTable
@@ -33,13 +34,6 @@ column-code b h = eqb→eq _ _ (every-at 16 (λ i. eqb (i % 2 + 2 * (i / 4 % 2))
 pub row-code : (b : ℕ) → b < 16 → b / 2 % 2 + 2 * (b / 8) ≡ rowIn b
 unfolding rowIn tablePlace blockTable first
 row-code b h = eqb→eq _ _ (every-at 16 (λ i. eqb (i / 2 % 2 + 2 * (i / 8)) (rowIn i)) tt b h)
-
--- the blocks whose upper right comes before them where it lies in the picture: the code's table
-abbrev pub earlyTable : List ℕ
-earlyTable = 1 ∷ 1 ∷ 1 ∷ 0 ∷ 1 ∷ 1 ∷ 1 ∷ 0 ∷ 1 ∷ 1 ∷ 1 ∷ 0 ∷ 1 ∷ 0 ∷ 1 ∷ 0 ∷ []
-
-unfoldable pub early : ℕ → Bool
-early b = eqb (getD earlyTable b 0) 1
 
 -- block b in column u and row v of its macroblock; e says whether its upper right comes earlier
 pub record Inner (u v b : ℕ) (e : Bool) : Type 0 where

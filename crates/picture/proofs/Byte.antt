@@ -16,7 +16,7 @@ use Rattle.lists.proofs.Every.{every-same}
 use Rattle.picture.specs.declared.Layout.{Layout}
 use Rattle.picture.specs.Order.{Among, rowIn, blockColumn, blockRow}
 use Rattle.picture.specs.Presence.{presentAt, flagsOf}
-use Rattle.picture.proofs.Blocks.{early}
+use Rattle.picture.specs.Reach.{early}
 use Rattle.picture.proofs.Presence.{cheap, presence}
 
 -- the bit of the group that neighbour k is in: "bit 0 A-D, bit 1 I-L, bit 2 M, bit 3 E-H"

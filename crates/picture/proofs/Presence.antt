@@ -20,7 +20,8 @@ use Rattle.lists.proofs.Every.{both-true, same-test, every-at, holds}
 use Rattle.picture.specs.declared.Layout.{Layout}
 use Rattle.picture.specs.Order.{blockTable, blockIn, tablePlace, columnIn, rowIn, blockColumn, blockRow, orderAt}
 use Rattle.picture.specs.Presence.{present, presentAt, neighbourColumn, neighbourRow}
-use Rattle.picture.proofs.Blocks.{Inner, inner-facts, block-lt, early}
+use Rattle.picture.specs.Reach.{early}
+use Rattle.picture.proofs.Blocks.{Inner, inner-facts, block-lt}
 
 -- what it means to be present
 pub record Present (l : Layout) (number X Y : ℕ) : Type 0 where

@@ -7,11 +7,8 @@ ghost use Rattle.lists.specs.Tab.{tab};
 ghost use Rattle.picture.specs.Order.{Among, columnIn, rowIn, blockColumn, blockRow};
 ghost use Rattle.picture.specs.Plane.{stride, samplesOf, blockOf, withBlock, gathered};
 ghost use Rattle.picture.specs.Presence.{presentAt, flagsOf};
-ghost use Rattle.picture.specs.Reach.{Behind};
+ghost use Rattle.picture.specs.Reach.{Behind, early};
 use crate::Layout;
-
-// The blocks whose upper right comes before them where it lies in the picture: all but 3, 7, 11, 13, 15.
-const EARLY: [u8; 16] = [1, 1, 1, 0, 1, 1, 1, 0, 1, 1, 1, 0, 1, 0, 1, 0];
 
 // The column of block b in its macroblock, in blocks.
 fn column_inside(b: usize) -> usize
@@ -81,6 +78,17 @@ fn has_corner(layout: Layout, m: usize, b: usize) -> bool
     }
 }
 
+// Whether the upper right of block b comes before it where it lies in the picture. A match, since the compiler would copy a table to the
+// stack for each block.
+fn early(b: usize) -> bool
+    ensures { λ r. ⌜ r ≡ early b ⌝ }
+{
+    match b {
+        3 | 7 | 11 | 13 | 15 => false,
+        _ => true,
+    }
+}
+
 // Whether E-H are present.
 fn has_upper_right(layout: Layout, m: usize, b: usize) -> bool
     requires { ⌜ Among layout m b ⌝ }
@@ -88,7 +96,7 @@ fn has_upper_right(layout: Layout, m: usize, b: usize) -> bool
 {
     if has_above(layout, m, b) {
         if column(layout, m, b) + 8 <= 16 * layout.width {
-            EARLY[b] == 1
+            early(b)
         } else {
             false
         }

@@ -8,7 +8,7 @@ use borrow.Author.Tests.{le-leb, lt-leb}
 use borrow.Author.Needs.{needs}
 use lib.Dec.{leb}
 use Rattle.picture.specs.Presence.{presentAt}
-use Rattle.picture.proofs.Blocks.{early}
+use Rattle.picture.specs.Reach.{early}
 use Rattle.picture.proofs.Byte.{upper-right-is}
 use Rattle.picture.proofs.Plane.{room-among}
 use Rattle.picture.proofs.inner.has_upper_right.Statement.{statement}
@@ -26,9 +26,6 @@ add-if2 c = omega (arith, c .column .ensures, room-among (c .before .before .bef
 mul-if2 : tie.Need-mul-if2
 mul-if2 c = search needs
 
-array-read-result : tie.Need-array-read-result
-array-read-result c = search needs
-
 -- with a row above, what is left to test
 below : (c : tie.After-column)
     → let a = c .before .before .before .args in
@@ -38,8 +35,7 @@ below c =
     rw (upper-right-is (s .before .pre), sym (s .has-above .ensures) ∙ c .before .if1 .taken, c .column .ensures)
 
 returns : tie.Need-returns
-unfolding early
-returns c = rw (below (c .before .before), le-leb _ _ (c .if2 .taken))
+returns c = rw (below (c .before .before .before), le-leb _ _ (c .before .if2 .taken)) (c .early .ensures)
 
 returns-2 : tie.Need-returns-2
 returns-2 c = rw (below (c .before .before), lt-leb _ _ (c .if2 .left))
@@ -55,7 +51,7 @@ has-upper-right-spec =
     column-requires
     add-if2
     mul-if2
-    array-read-result
+    (λ c κs. search needs)
     returns
     returns-2
     returns-3)
