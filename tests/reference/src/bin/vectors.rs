@@ -1,6 +1,6 @@
 //! Writes test vectors: inputs with what the reference answers.
 //!
-//!     vectors BLOCK_FILE [DC_FILE [PLANE_FILE]]
+//!     vectors BLOCK_FILE [PLANE_FILE]
 //!
 //! The output is the same on every run. The files have no head; numbers of
 //! several bytes are high byte first, and negative ones in two's complement.
@@ -34,52 +34,24 @@
 //! neighbours only 0 or 255). Then random blocks for each QP of 51, 52, 255,
 //! each flags byte of 15, 16, 255, each mode of 2, 9, 255.
 //!
-//! # DC_FILE: 212 luma records, 212 chroma records, 1431 quantizer records
-//!
-//! A luma record has 261 bytes, with n = 16; a chroma record 69, with n = 4.
-//! DC values, levels and values have signed 32 bits each.
-//!
-//! | bytes | what |
-//! |---|---|
-//! | 1 | QP |
-//! | 4n | DC values in raster order |
-//! | 2 | `luma_dc_levels` or `chroma_dc_levels` of these: number, place |
-//! | 4n | its levels (luma: zigzag order) |
-//! | 4n | levels (luma: zigzag order) |
-//! | 2 | `luma_dc_values` or `chroma_dc_values` of these: number, place |
-//! | 4n | its values in raster order |
-//!
-//! Order: for each QP 0 to 52 four records. First random DC values and second
-//! DC values of -4080 or 4080 only; in both the levels lent to the way back are
-//! the record's own. Third random DC values with one of them just out of
-//! range, and random levels of 16 bits or fewer. Fourth the same kinds of
-//! numbers, of which about one in 16 is any 32-bit number.
-//!
-//! A quantizer record has 5 bytes: QP, offset (signed), `chroma_quantizer` of
-//! these: number, place, quantizer. Order: for each QP 0 to 52 each offset -13
-//! to 13.
-//!
 //! # PLANE_FILE: 6347 records of 3 bytes
 //!
 //! Number and place (two bytes) of `decode_plane`, of the file `random-04.rec`
 //! with each byte complemented, then of its first 0 to 2115 bytes, then of the
 //! file with each byte exchanged for the next one.
 
-use reference::{
-    chroma_dc_levels, chroma_dc_values, chroma_quantizer, code_block, decode_plane, luma_dc_levels,
-    luma_dc_values, predict, rebuild, Refusal,
-};
+use reference::{code_block, decode_plane, predict, rebuild, Refusal};
 use std::process::ExitCode;
 
 const BLOCK_RECORD: usize = 121;
 
 fn main() -> ExitCode {
     let arguments: Vec<String> = std::env::args().skip(1).collect();
-    if !(1..=3).contains(&arguments.len()) {
-        eprintln!("usage: vectors BLOCK_FILE [DC_FILE [PLANE_FILE]]");
+    if !(1..=2).contains(&arguments.len()) {
+        eprintln!("usage: vectors BLOCK_FILE [PLANE_FILE]");
         return ExitCode::from(2);
     }
-    let makers: [fn() -> Vec<u8>; 3] = [block_vectors, dc_vectors, plane_vectors];
+    let makers: [fn() -> Vec<u8>; 2] = [block_vectors, plane_vectors];
     for (path, vectors) in arguments.iter().zip(makers) {
         if let Err(error) = std::fs::write(path, vectors()) {
             eprintln!("{path}: {error}");
@@ -240,89 +212,6 @@ fn block_record(qp: u8, flags: u8, mode: u8, block: &Surroundings) -> Vec<u8> {
     record
 }
 
-fn dc_vectors() -> Vec<u8> {
-    let mut random = Random(2);
-    let mut file = Vec::new();
-    for qp in 0..=52 {
-        for case in 0..4 {
-            file.extend(dc_record::<16>(
-                qp,
-                case,
-                &mut random,
-                luma_dc_levels,
-                luma_dc_values,
-            ));
-        }
-    }
-    for qp in 0..=52 {
-        for case in 0..4 {
-            file.extend(dc_record::<4>(
-                qp,
-                case,
-                &mut random,
-                chroma_dc_levels,
-                chroma_dc_values,
-            ));
-        }
-    }
-    for qp in 0..=52 {
-        for offset in -13..=13_i8 {
-            let result = chroma_quantizer(qp, i32::from(offset));
-            file.extend([qp, offset as u8]);
-            file.extend(outcome(&result));
-            file.push(result.unwrap_or(0));
-        }
-    }
-    file
-}
-
-type DcEntry = fn(u8, &[i32], &mut [i32]) -> Result<(), Refusal>;
-
-fn dc_record<const N: usize>(
-    qp: u8,
-    case: u32,
-    random: &mut Random,
-    to_levels: DcEntry,
-    to_values: DcEntry,
-) -> Vec<u8> {
-    let numbers = |of: &[i32; N]| of.map(i32::to_be_bytes).concat();
-
-    let mut dc: [i32; N] = std::array::from_fn(|_| match case {
-        0 | 2 => random.between(-4080, 4080),
-        1 => random.one_of(&[-4080, 4080]),
-        _ => match random.between(0, 15) {
-            0 => random.between(i32::MIN, i32::MAX),
-            _ => random.between(-4080, 4080),
-        },
-    });
-    if case == 2 {
-        let place = random.between(0, N as i32 - 1) as usize;
-        dc[place] = random.one_of(&[-4081, 4081]);
-    }
-    let mut own = [0; N];
-    let result = to_levels(qp, &dc, &mut own);
-    let mut record = vec![qp];
-    record.extend(numbers(&dc));
-    record.extend(outcome(&result));
-    record.extend(numbers(&own));
-
-    // Few bits keep the values in range at a high QP, many leave it.
-    let bits = random.between(0, 15);
-    let levels: [i32; N] = std::array::from_fn(|index| match case {
-        0 | 1 => own[index],
-        _ => match random.between(0, 15) {
-            0 if case == 3 => random.between(i32::MIN, i32::MAX),
-            _ => random.between(-1 << bits, (1 << bits) - 1),
-        },
-    });
-    let mut values = [0; N];
-    let result = to_values(qp, &levels, &mut values);
-    record.extend(numbers(&levels));
-    record.extend(outcome(&result));
-    record.extend(numbers(&values));
-    record
-}
-
 #[cfg(test)]
 mod tests {
     use super::*;
@@ -330,7 +219,7 @@ mod tests {
     #[test]
     fn files_have_the_stated_records() {
         assert_eq!(block_vectors().len(), 2747 * BLOCK_RECORD);
-        assert_eq!(dc_vectors().len(), 212 * 261 + 212 * 69 + 1431 * 5);
+        assert_eq!(plane_vectors().len(), 6347 * 3);
     }
 
     #[test]
