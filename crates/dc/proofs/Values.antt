@@ -2,15 +2,15 @@
 --     products-within                   numbers times the scale of class a, over the power of two
 --     luma-back, chroma-back            g of levels of 16 bits
 --     scaled-by                         n numbers rescaled by a rule
---     scaled-zero, scaled-one, scaled-high     the scaling rule at k = 2, as the code has it: periods 0, 1 and from 2 on
+--     scaled-low, scaled-high           the scaling rule at k = 2, as the code has it: at a known period below 2, and from 2 on
 --     chroma-shift, chroma-values-length       chroma's plain shift, and that its values are four
 -- Assumes nothing.
 use mathlib.Core.Path.{_≡_, sym, ap, subst, _∙_}
 use mathlib.Core.List.{List}
-use Prim.Native.Nat.{ℕ, _+_, _-_, _*_, _^_, _≤_}
+use Prim.Native.Nat.{ℕ, _+_, _-_, _*_, _^_, _<_, _≤_}
 use native.Mathlib.Nat.{mul-le-mul}
 use native.Mathlib.Omega.{arith}
-use borrow.Author.Tests.{le-leb}
+use borrow.Author.Tests.{le-leb, lt-leb}
 use lib.IntN.{ℤ, pos, natAbs, _+ℤ_, _*ℤ_, +ℤ-idr}
 use lib.ListN.{length, getD}
 use lib.Pow.{pow-mono}
@@ -48,27 +48,27 @@ chroma-back levels h = hadamard2-each 32768 levels h
 -- ---- n numbers rescaled, as the code has them: each by a rule that the product, what is added and the divisor meet
 
 pub scaled-by : (n qp power : ℕ) (g : List ℤ) (scale round : ℤ) (divisor : ℕ) (rule : ℤ → ℤ) {r : List ℤ}
-    → r ≡ tab n (λ k. shrZ (getD g k (pos 0) *ℤ scale +ℤ round) divisor)
+    → r ≡ tab (length g) (λ k. shrZ (getD g k (pos 0) *ℤ scale +ℤ round) divisor)
+    → length g ≡ n
     → scale ≡ pos (vA qp * 2 ^ power)
     → ((x : ℤ) → shrZ (x *ℤ pos (vA qp * 2 ^ power) +ℤ round) divisor ≡ rule x)
     → r ≡ tab n (λ k. rule (getD g k (pos 0)))
-scaled-by n qp power g scale round divisor rule made e h =
-    made ∙ (λ i. tab n (λ k. shrZ (getD g k (pos 0) *ℤ e i +ℤ round) divisor)) ∙ (λ i. tab n (λ k. h (getD g k (pos 0)) i))
+scaled-by n qp power g scale round divisor rule made long e h =
+    made ∙ (λ i. tab (long i) (λ k. shrZ (getD g k (pos 0) *ℤ e i +ℤ round) divisor)) ∙ (λ i. tab n (λ k. h (getD g k (pos 0)) i))
 
 -- ---- luma
 
-module _ (v : ℕ) (x : ℤ) where
-  pub scaled-zero : shrZ (x *ℤ pos (v * 2 ^ 0) +ℤ pos 2) (2 ^ 2) ≡ scaledBy 2 0 (x *ℤ pos v)
+module _ (v : ℕ) (x : ℤ) (p : ℕ) where
+  pub scaled-low : (q : ℕ) → q ≡ p → p < 2 → shrZ (x *ℤ pos (v * 2 ^ (p - 2)) +ℤ pos (2 ^ (2 - q - 1))) (2 ^ (2 - q)) ≡ scaledBy 2 p (x *ℤ pos v)
   unfolding scaledBy
-  scaled-zero = let e : v * 1 ≡ v = omega arith in ap (λ (n : ℕ). shrZ (x *ℤ pos n +ℤ pos 2) 4) e
+  scaled-low q e h =
+      let none : p - 2 ≡ 0 = omega arith in
+      let one : v * 1 ≡ v = omega arith in
+      rw (lt-leb 2 p h, none, one, e)
 
-  pub scaled-one : shrZ (x *ℤ pos (v * 2 ^ 0) +ℤ pos 1) (2 ^ 1) ≡ scaledBy 2 1 (x *ℤ pos v)
+  pub scaled-high : 2 ≤ p → shrZ (x *ℤ pos (v * 2 ^ (p - 2)) +ℤ pos 0) (2 ^ 0) ≡ scaledBy 2 p (x *ℤ pos v)
   unfolding scaledBy
-  scaled-one = let e : v * 1 ≡ v = omega arith in ap (λ (n : ℕ). shrZ (x *ℤ pos n +ℤ pos 1) 2) e
-
-  pub scaled-high : (p : ℕ) → 2 ≤ p → shrZ (x *ℤ pos (v * 2 ^ (p - 2)) +ℤ pos 0) (2 ^ 0) ≡ scaledBy 2 p (x *ℤ pos v)
-  unfolding scaledBy
-  scaled-high p h =
+  scaled-high h =
       rw (le-leb 2 p h)
       (shr-one (x *ℤ pos (v * 2 ^ (p - 2)) +ℤ pos 0) ∙ +ℤ-idr (x *ℤ pos (v * 2 ^ (p - 2))) ∙ sym (*ℤ-assoc x (pos v) (pos (2 ^ (p - 2)))))
 

@@ -1,8 +1,8 @@
 // Levels and values of the DC paths over arrays by value, for callers that have tested their numbers.
 ghost use mathlib.Core.Path.{_≡_};
-ghost use Prim.Native.Nat.{ℕ, _^_, _<_, _≤_};
+ghost use Prim.Native.Nat.{ℕ, _-_, _^_, _<_, _≤_};
 ghost use lib.IntN.{pos, _+ℤ_, _*ℤ_};
-ghost use lib.ListN.{getD};
+ghost use lib.ListN.{length, getD};
 ghost use lib.Signed.{shrZ};
 ghost use Rattle.lists.specs.Tab.{tab};
 ghost use Rattle.whole.specs.Bounds.{Within, Each};
@@ -58,28 +58,23 @@ fn scaled(g: i32, scale: i32, round: i32, shift: u32) -> i32
     (g * scale + round) >> shift
 }
 
-// The same of sixteen numbers, for luma.
-fn scaled_sixteen(g: [i32; 16], scale: i32, round: i32, shift: u32) -> [i32; 16]
-    requires { ⌜ ((k : ℕ) → k < 16 → Within 973078528 (getD g k (pos 0) *ℤ scale)) × (Within 2 round) × (shift ≤ 2) ⌝ }
-    ensures { λ r. ⌜ r ≡ tab 16 (λ k. shrZ (getD g k (pos 0) *ℤ scale +ℤ round) (2 ^ shift)) ⌝ }
+// Each number of a slice rescaled, in its place.
+fn scale_all(values: &mut [i32], scale: i32, round: i32, shift: u32)
+    requires { ⌜ ((k : ℕ) → k < length (now values) → Within 973078528 (getD (now values) k (pos 0) *ℤ scale)) × (Within 2 round) × (shift ≤ 2) ⌝ }
+    ensures { λ r. ⌜ now (values .exit) ≡ tab (length (now (values .entry))) (λ k. shrZ (getD (now (values .entry)) k (pos 0) *ℤ scale +ℤ round) (2 ^ shift)) ⌝ }
 {
-    let mut values = [0i32; 16];
-    for k in 0usize..16 {
-        values[k] = scaled(g[k], scale, round, shift);
+    let mut k = 0;
+    while k < values.len() {
+        values[k] = scaled(values[k], scale, round, shift);
+        k += 1;
     }
-    values
 }
 
-// And of four, for chroma.
-fn scaled_four(g: [i32; 4], scale: i32, round: i32, shift: u32) -> [i32; 4]
-    requires { ⌜ ((k : ℕ) → k < 4 → Within 973078528 (getD g k (pos 0) *ℤ scale)) × (Within 2 round) × (shift ≤ 2) ⌝ }
-    ensures { λ r. ⌜ r ≡ tab 4 (λ k. shrZ (getD g k (pos 0) *ℤ scale +ℤ round) (2 ^ shift)) ⌝ }
+// How far a period is above 2: the power of two that is left where luma's shift by 2 has been taken off.
+fn above_two(period: u8) -> u8
+    ensures { λ r. ⌜ r ≡ period - 2 ⌝ }
 {
-    let mut values = [0i32; 4];
-    for k in 0usize..4 {
-        values[k] = scaled(g[k], scale, round, shift);
-    }
-    values
+    if period < 2 { 0 } else { period - 2 }
 }
 
 // Sixteen numbers that came through H, rescaled: below period 2 the shift is down, and rounds.
@@ -87,17 +82,15 @@ fn luma_scaled(quantizer: Quantizer, g: [i32; 16]) -> [i32; 16]
     requires { ⌜ (quantizer .qp ≤ highest) × (Each 524288 g) ⌝ }
     ensures { λ r. ⌜ r ≡ lumaScaled (quantizer .qp) g ⌝ }
 {
+    let mut values = g;
     let period = quantizer.period();
+    let scale = residual::inner::scale(quantizer, Class::A, above_two(period));
     match period {
-        0 => scaled_sixteen(g, residual::inner::scale(quantizer, Class::A, 0), 2, 2),
-        1 => scaled_sixteen(g, residual::inner::scale(quantizer, Class::A, 0), 1, 1),
-        _ => scaled_sixteen(
-            g,
-            residual::inner::scale(quantizer, Class::A, period - 2),
-            0,
-            0,
-        ),
+        0 => scale_all(&mut values, scale, 2, 2),
+        1 => scale_all(&mut values, scale, 1, 1),
+        _ => scale_all(&mut values, scale, 0, 0),
     }
+    values
 }
 
 // The luma DC values of sixteen levels in zigzag order, in raster order.
@@ -114,7 +107,8 @@ pub fn chroma_values(quantizer: Quantizer, levels: [i32; 4]) -> [i32; 4]
     requires { ⌜ (quantizer .qp ≤ highest) × (Each 32768 levels) ⌝ }
     ensures { λ r. ⌜ r ≡ chromaValues (quantizer .qp) levels ⌝ }
 {
-    let g = transform::inner::hadamard2(levels);
+    let mut values = transform::inner::hadamard2(levels);
     let scale = residual::inner::scale(quantizer, Class::A, quantizer.period());
-    scaled_four(g, scale, 0, 1)
+    scale_all(&mut values, scale, 0, 1);
+    values
 }

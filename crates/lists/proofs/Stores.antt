@@ -2,6 +2,7 @@
 --     length-stores, getD-stores-at, getD-stores-off      its elements: at the place of a store, and at any other
 --     stores-same                                         equal places
 --     Storing: storing-none, storing-more, storing-done   a loop over k that stores v k at p k
+--     storing-ahead, stores-in-turn                       at 0, 1, ..: what the loop has not come to is as it was; all places
 -- Assumes nothing.
 use mathlib.Core.Path.{_≡_, refl, sym, ap, _∙_}
 use mathlib.Core.List.{List}
@@ -13,6 +14,8 @@ use native.Mathlib.Omega.{arith}
 use lib.ListN.{length, set, getD, length-set}
 use lib.Seq.{getD-set-same, getD-set-other}
 use Rattle.lists.specs.Stores.{stores}
+use Rattle.lists.specs.Tab.{tab}
+use Rattle.lists.proofs.Tab.{tab-of}
 
 module _ {A : Type 0} (p : ℕ → ℕ) (v : ℕ → A) where
   pub length-stores : (n : ℕ) (d : List A) → length (stores n p v d) ≡ length d
@@ -65,3 +68,13 @@ module _ {A : Type 0} (p q : ℕ → ℕ) (v : ℕ → A) where
   unfolding stores
   stores-same zero d h = refl
   stores-same (suc n) d h = rw (stores-same n d (λ k l. h k (omega arith)), h n (omega arith))
+
+-- a loop that goes over a list and stores in each place, also what it makes of the element there
+module _ {A : Type 0} (v : ℕ → A) where
+  pub storing-ahead : (n : ℕ) {d₀ d : List A} {k : ℕ} (i : ℕ) (z : A) → Storing (λ j. j) v n d₀ d k → k ≤ i → getD d i z ≡ getD d₀ i z
+  storing-ahead n {d₀} {d} {k} i z h l = rw (h .is) (getD-stores-off (λ j. j) v k d₀ i z (λ j m e. omega arith))
+
+  pub stores-in-turn : (d : List A) → stores (length d) (λ j. j) v d ≡ tab (length d) v
+  stores-in-turn d =
+      sym (tab-of (length d) v (stores (length d) (λ j. j) v d) (v 0) (length-stores (λ j. j) v (length d) d)
+      (λ k l. sym (getD-stores-at (λ j. j) v (length d) d k (v 0) (λ j m e. sym e) l l)))

@@ -1,6 +1,6 @@
 -- The code's way over both sides of a block: rows, exchanged, rows, exchanged.
---     kept, crossed, rowed               bounds along the way
---     chained                            each row first, then each column
+--     kept                               the bound of an equal list
+--     Widens, Holds: holds, between, beyond    what the code holds along the way and how large it is, over the row's f
 --     forward-around, hadamard-around    the definitions as M X M-transposed
 --     forward-sides, hadamard-sides      and as each row through M, then each column
 --     rounded-inverse                    the inverse's last step
@@ -9,19 +9,21 @@
 use mathlib.Core.Path.{_≡_, refl, sym, ap, subst, _∙_}
 use mathlib.Core.List.{List}
 use Prim.Native.Nat.{ℕ, _*_, _<_}
+use lib.Dec.{T, leb}
 use lib.IntN.{ℤ, pos}
 use lib.ListN.{length}
 use Rattle.lists.specs.Tab.{tab}
 use Rattle.lists.proofs.Tab.{length-tab, getD-tab, tab-same}
 use Rattle.whole.specs.Bounds.{Each}
+use Rattle.whole.proofs.Lists.{each-less}
 use Rattle.whole.proofs.Sums.{same-below}
-use Rattle.transform.specs.Block.{line, turn, byRow, through}
+use Rattle.transform.specs.Block.{line, turn, byRow, through, wide}
 use Rattle.transform.specs.Forward.{C, forward}
 use Rattle.transform.specs.Hadamard.{H4, H2, hadamard}
 use Rattle.transform.specs.Inverse.{back, inverse, rounded}
 use Rattle.transform.specs.Matrix.{Line, Matrix, transposed, eachRow, eachColumn, raster, entries}
 use Rattle.transform.proofs.Products.{around}
-use Rattle.transform.proofs.Squares.{Local, Grows, entries-same, turn-each, byRow-each, both-sides}
+use Rattle.transform.proofs.Squares.{Grows, entries-same, turn-each, byRow-each}
 use Rattle.transform.proofs.Through.{sides, sides-symmetric}
 
 -- ---- bounds
@@ -29,19 +31,33 @@ use Rattle.transform.proofs.Through.{sides, sides-symmetric}
 pub kept : (B : ℕ) {l d : List ℤ} → l ≡ d → Each B d → Each B l
 kept B e h = subst (λ (z : List ℤ). Each B z) (sym e) h
 
-pub crossed : (B : ℕ) {l : List ℤ} (d : List ℤ) → l ≡ turn 4 d → Each B d → Each B l
-crossed B d e h = kept B e (turn-each 4 B d h)
+-- ---- each row and then each column, as the code goes: twice f of each row, then rows and columns exchanged
 
-pub rowed : (f : Line → Line) (B M : ℕ) → Grows 4 f B M → {l : List ℤ} (d : List ℤ) → l ≡ byRow 4 f d → Each B d → Each M l
-rowed f B M g d e h = kept M e (byRow-each 4 f B M g d h)
+abbrev pub across : (Line → Line) → List ℤ → List ℤ
+across f d = turn 4 (byRow 4 f d)
 
--- ---- each row first, then each column
+-- f makes numbers within M of numbers within B, and such numbers the code may hand round
+pub record Widens (f : Line → Line) (B M : ℕ) : Type 0 where
+  pub grows : Grows 4 f B M
+  pub small : T (leb M wide)
 
-pub chained : (f : Line → Line) → Local 4 f → (r l4 l3 l2 l1 l0 x : List ℤ)
-    → r ≡ l4 → l4 ≡ turn 4 l3 → l3 ≡ byRow 4 f l2 → l2 ≡ turn 4 l1 → l1 ≡ byRow 4 f l0 → l0 ≡ x
-    → r ≡ entries 4 (eachColumn f (eachRow f (raster 4 x)))
-chained f local r l4 l3 l2 l1 l0 x e5 e4 e3 e2 e1 e0 =
-    e5 ∙ e4 ∙ ap (turn 4) (e3 ∙ ap (byRow 4 f) (e2 ∙ ap (turn 4) (e1 ∙ ap (byRow 4 f) e0))) ∙ both-sides 4 f local x
+-- what the code holds is d, within B
+pub record Holds (B : ℕ) (d l : List ℤ) : Type 0 where
+  pub is : l ≡ d
+  pub each : Each B d
+  pub fits : Each wide l
+
+pub holds : (B : ℕ) {d l : List ℤ} → l ≡ d → Each B d → T (leb B wide) → Holds B d l
+holds B {d} e h t = record { is = e; each = h; fits = kept wide e (each-less B wide d h t) }
+
+module _ {f : Line → Line} {B M : ℕ} (widens : Widens f B M) {d l m : List ℤ} (from : Holds B d l) (rows : m ≡ byRow 4 f l) where
+  -- between f of each row and the exchange
+  pub between : Holds M (byRow 4 f d) m
+  between = holds M (rows ∙ ap (byRow 4 f) (from .is)) (byRow-each 4 f B M (widens .grows) d (from .each)) (widens .small)
+
+  -- and behind it
+  pub beyond : {r : List ℤ} → r ≡ turn 4 m → Holds M (across f d) r
+  beyond e = holds M (e ∙ ap (turn 4) (between .is)) (turn-each 4 M (byRow 4 f d) (between .each)) (widens .small)
 
 -- ---- the products
 

@@ -34,22 +34,31 @@ period-requires c κs = search needs
 scale-requires : tie.Need-scale-requires
 scale-requires c κs = search needs
 
-scaled-four-requires : tie.Need-scaled-four-requires
-scaled-four-requires c κs =
-    let s = c .before .before .before in
+slice-aggregate-scale-all : tie.Need-slice-aggregate-scale-all
+slice-aggregate-scale-all c = search needs
+
+scale-all-requires : tie.Need-scale-all-requires
+scale-all-requires c κs =
+    let s = c .before .before .before .before in
     let qp = s .args .quantizer .qp in
-    let g = kept 131072 (c .before .before .hadamard2 .ensures) (chroma-back (s .args .levels) (s .pre .1)) in
-    ((λ k l. products-within 131072 8 qp (periodOf qp) (c .before .before .hadamard2 .result) (scale-is c) (omega arith) g k), record { size = omega arith }, omega arith)
+    let g = kept 131072 (c .before .before .before .hadamard2 .ensures) (chroma-back (s .args .levels) (s .pre .1)) in
+    ((λ k l. products-within 131072 8 qp (periodOf qp) (c .before .before .before .hadamard2 .result) (scale-is (c .before)) (omega arith) g k), record { size = omega arith }, omega arith)
 
 returns : tie.Need-returns
 unfolding chromaValues chromaScaled
 returns c =
-    let s = c .before .before .before .before in
-    let qp = s .args .quantizer .qp in
-    scaled-by 4 qp (periodOf qp) (c .before .before .before .hadamard2 .result) _ _ _ (rule qp) (c .scaled-four .ensures) (scale-is (c .before)) (chroma-shift (vA qp) (periodOf qp))
-    ∙ ap (chromaScaled qp) (c .before .before .before .hadamard2 .ensures)
+    let h = c .before .before .before .before .before in
+    let qp = h .before .args .quantizer .qp in
+    scaled-by 4 qp (periodOf qp) (h .hadamard2 .result) _ _ _ (rule qp) (c .before .scale-all .ensures) (search needs) (scale-is (c .before .before .before)) (chroma-shift (vA qp) (periodOf qp))
+    ∙ ap (chromaScaled qp) (h .hadamard2 .ensures)
 
 pub chroma-values-spec : {M : Type 1} → statement M
 chroma-values-spec =
     tie.close
-    (tie.spec hadamard2-requires period-requires scale-requires scaled-four-requires returns)
+    (tie.spec
+    hadamard2-requires
+    period-requires
+    scale-requires
+    slice-aggregate-scale-all
+    scale-all-requires
+    returns)
