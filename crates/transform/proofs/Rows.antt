@@ -1,6 +1,6 @@
--- Rows of four in the code: the straight-line code of each row function, and from its four rows to the block.
---     forwardRow, inverseRow, hadamardRow, hadamardSquare      the code, reflected
---     forward-row, inverse-row, hadamard-row, hadamard-square  over ℤ it is the row through C, the inverse's sums, the row through H, and all of the 2x2
+-- Rows of four in the code, and from its four rows to the block.
+--     inverseRow, inverse-row                  the inverse's code, reflected: over ℤ it is the inverse's sums
+--     row-through, square-through              code over ℤ whose normal form is a matrix's: the row through it, and all of the 2x2
 --     back-local, back-grows                   the inverse's sums look at four numbers, and are four times as large at the most
 --     gathered                                 sixteen numbers, read one by one
 --     rows-each                                bounds of a block's rows
@@ -17,54 +17,39 @@ use mir.Syntax.{w32}
 use Rattle.lists.specs.Tab.{tab}
 use Rattle.lists.proofs.Tab.{getD-tab, tab-of}
 use Rattle.whole.specs.Bounds.{Each}
-use Rattle.whole.proofs.Ring.{Expression, var, con, _⊕_, _⊗_, rings}
+use Rattle.whole.proofs.Ring.{Expression, var, con, _⊕_, _⊗_, values, normals, rings}
 use Rattle.whole.proofs.Steps.{Code, inp, add, sub, shr, each-at}
-use Rattle.whole.proofs.Lists.{gather, each-gather, ideals, expressions, oks, mosts, sizes}
+use Rattle.whole.proofs.Lists.{gather, each-gather, ideals, oks, mosts, sizes}
 use Rattle.transform.specs.Block.{row, flat, line, byRow, through}
-use Rattle.transform.specs.Forward.{C}
-use Rattle.transform.specs.Hadamard.{H4, H2, hadamard}
+use Rattle.transform.specs.Hadamard.{hadamard}
 use Rattle.transform.specs.Inverse.{butterfly, back}
 use Rattle.transform.specs.Matrix.{Line, Matrix, raster, eachRow}
 use Rattle.transform.specs.declared.inner.Block.{Block}
 use Rattle.transform.specs.declared.inner.Quad.{Quad}
 use Rattle.transform.proofs.Squares.{Local, Grows, entries-of}
 
--- ---- the code
+-- ---- the code of the inverse
 
-abbrev pub forwardRow : List Code
-forwardRow =
-    let e = add (inp 0) (inp 3) in
-    let f = add (inp 1) (inp 2) in
-    let g = sub (inp 1) (inp 2) in
-    let h = sub (inp 0) (inp 3) in
-    add e f ∷ add (add h h) g ∷ sub e f ∷ sub (sub h g) g ∷ []
+abbrev pub evenSum : Code
+evenSum = add (inp 0) (inp 2)
+
+abbrev pub evenDifference : Code
+evenDifference = sub (inp 0) (inp 2)
+
+abbrev pub oddDifference : Code
+oddDifference = sub (shr (inp 1) 1) (inp 3)
+
+abbrev pub oddSum : Code
+oddSum = add (inp 1) (shr (inp 3) 1)
 
 abbrev pub inverseRow : List Code
-inverseRow =
-    let e = add (inp 0) (inp 2) in
-    let g = sub (inp 0) (inp 2) in
-    let k = sub (shr (inp 1) 1) (inp 3) in
-    let m = add (inp 1) (shr (inp 3) 1) in
-    add e m ∷ add g k ∷ sub g k ∷ sub e m ∷ []
+inverseRow = add evenSum oddSum ∷ add evenDifference oddDifference ∷ sub evenDifference oddDifference ∷ sub evenSum oddSum ∷ []
 
-abbrev pub hadamardRow : List Code
-hadamardRow =
-    let e = add (inp 0) (inp 1) in
-    let f = add (inp 2) (inp 3) in
-    let g = sub (inp 0) (inp 1) in
-    let h = sub (inp 2) (inp 3) in
-    add e f ∷ sub e f ∷ sub g h ∷ add g h ∷ []
+pub inverse-row : (a b c d : ℤ) → ideals (a ∷ b ∷ c ∷ d ∷ []) inverseRow ≡ tab 4 (back (line (a ∷ b ∷ c ∷ d ∷ [])))
+unfolding tab
+inverse-row a b c d = refl
 
--- the whole 2x2
-abbrev pub hadamardSquare : List Code
-hadamardSquare =
-    let e = add (inp 0) (inp 1) in
-    let f = sub (inp 0) (inp 1) in
-    let g = add (inp 2) (inp 3) in
-    let h = sub (inp 2) (inp 3) in
-    add e g ∷ add f h ∷ sub e g ∷ sub f h ∷ []
-
--- ---- and the matrices' rows, for the solver
+-- ---- the matrices' rows, for the solver
 
 abbrev sumExpression : ℕ → (ℕ → Expression) → Expression
 sumExpression zero f = con (pos 0)
@@ -73,28 +58,24 @@ sumExpression (suc n) f = sumExpression n f ⊕ f n
 abbrev throughExpression : Matrix → ℕ → Expression
 throughExpression M place = sumExpression 4 (λ k. con (M place k) ⊗ var k)
 
-abbrev throughExpressions : Matrix → List Expression
+abbrev pub throughExpressions : Matrix → List Expression
 throughExpressions M = throughExpression M 0 ∷ throughExpression M 1 ∷ throughExpression M 2 ∷ throughExpression M 3 ∷ []
 
-pub forward-row : (a b c d : ℤ) → ideals (a ∷ b ∷ c ∷ d ∷ []) forwardRow ≡ tab 4 (through 4 C (line (a ∷ b ∷ c ∷ d ∷ [])))
+pub row-through : (M : Matrix) (code : List Expression) (a b c d : ℤ) → normals code ≡ normals (throughExpressions M)
+    → values (a ∷ b ∷ c ∷ d ∷ []) code ≡ tab 4 (through 4 M (line (a ∷ b ∷ c ∷ d ∷ [])))
 unfolding tab
-forward-row a b c d = rings (a ∷ b ∷ c ∷ d ∷ []) (expressions forwardRow) (throughExpressions C) refl
+row-through M code a b c d e = rings (a ∷ b ∷ c ∷ d ∷ []) code (throughExpressions M) e
 
-pub hadamard-row : (a b c d : ℤ) → ideals (a ∷ b ∷ c ∷ d ∷ []) hadamardRow ≡ tab 4 (through 4 H4 (line (a ∷ b ∷ c ∷ d ∷ [])))
-unfolding tab
-hadamard-row a b c d = rings (a ∷ b ∷ c ∷ d ∷ []) (expressions hadamardRow) (throughExpressions H4) refl
+-- the entry of H W H in a row and a column, of two rows and two columns
+abbrev squareExpression : Matrix → ℕ → ℕ → Expression
+squareExpression H i j = sumExpression 2 (λ k. con (H i k) ⊗ sumExpression 2 (λ l. var (2 * k + l) ⊗ con (H l j)))
 
--- the entry of H2 W H2 in a row and a column
-abbrev squareExpression : ℕ → ℕ → Expression
-squareExpression i j = sumExpression 2 (λ k. con (H2 i k) ⊗ sumExpression 2 (λ l. var (2 * k + l) ⊗ con (H2 l j)))
+abbrev pub squareExpressions : Matrix → List Expression
+squareExpressions H = squareExpression H 0 0 ∷ squareExpression H 0 1 ∷ squareExpression H 1 0 ∷ squareExpression H 1 1 ∷ []
 
-pub hadamard-square : (w : List ℤ) → ideals w hadamardSquare ≡ hadamard 2 H2 w
+pub square-through : (H : Matrix) (code : List Expression) (w : List ℤ) → normals code ≡ normals (squareExpressions H) → values w code ≡ hadamard 2 H w
 unfolding hadamard tab
-hadamard-square w = rings w (expressions hadamardSquare) (squareExpression 0 0 ∷ squareExpression 0 1 ∷ squareExpression 1 0 ∷ squareExpression 1 1 ∷ []) refl
-
-pub inverse-row : (a b c d : ℤ) → ideals (a ∷ b ∷ c ∷ d ∷ []) inverseRow ≡ tab 4 (back (line (a ∷ b ∷ c ∷ d ∷ [])))
-unfolding tab
-inverse-row a b c d = refl
+square-through H code w e = rings w code (squareExpressions H) e
 
 -- ---- four numbers
 

@@ -1,13 +1,15 @@
 -- `transform::inner::forward_row` meets its contract: the code, reflected; that nothing overflows is one test that the checker computes.
 -- Assumes nothing.
-use mathlib.Core.Path.{_∙_}
+use mathlib.Core.Path.{refl, _∙_}
+use mathlib.Core.List.{List, [], _∷_}
 use lib.Dec.{T}
 use mir.Syntax.{w32}
 use mir.Val.{SFits}
 use Rattle.whole.proofs.Steps.{Code, inp, add, sub, safe, raw, ok}
-use Rattle.whole.proofs.Lists.{exacts}
+use Rattle.whole.proofs.Lists.{exacts, expressions}
 use Rattle.transform.specs.Block.{row, wide}
-use Rattle.transform.proofs.Rows.{forwardRow, forward-row}
+use Rattle.transform.specs.Forward.{C}
+use Rattle.transform.proofs.Rows.{row-through}
 use Rattle.transform.proofs.inner.forward_row.Statement.{statement}
 use Rattle.transform.proofs.inner.forward_row.Tie as tie
 
@@ -22,6 +24,9 @@ g = sub (inp 1) (inp 2)
 
 abbrev h : Code
 h = sub (inp 0) (inp 3)
+
+abbrev code : List Code
+code = add e f ∷ add (add h h) g ∷ sub e f ∷ sub (sub h g) g ∷ []
 
 fit : (c : tie.Start) (z : Code) → T (ok w32 wide z) → SFits w32 (raw w32 (row (c .args .v)) z)
 fit c z t = safe w32 wide (row (c .args .v)) (c .pre) z t
@@ -60,7 +65,7 @@ returns : tie.Need-returns
 returns c =
     let s = c .before .before .before .before .before .before .before .before in
     let v = s .args .v in
-    exacts w32 wide (row v) (s .pre) forwardRow tt ∙ forward-row (v .p) (v .q) (v .r) (v .s)
+    exacts w32 wide (row v) (s .pre) code tt ∙ row-through C (expressions code) (v .p) (v .q) (v .r) (v .s) refl
 
 pub forward-row-spec : {M : Type 1} → statement M
 forward-row-spec = tie.close (tie.spec add-e add-f sub-g sub-h add-p add-q add-q-2 sub-r sub-s sub-s-2 returns)

@@ -1,13 +1,15 @@
 -- `transform::inner::hadamard2` meets its contract: the code, reflected; that nothing overflows is one test that the checker computes.
 -- Assumes nothing.
 use borrow.Author.Needs.{needs}
-use mathlib.Core.Path.{_∙_}
+use mathlib.Core.Path.{refl, _∙_}
+use mathlib.Core.List.{List, [], _∷_}
 use lib.Dec.{T}
 use mir.Syntax.{w32}
 use mir.Val.{SFits}
 use Rattle.whole.proofs.Steps.{Code, inp, add, sub, safe, raw, ok}
-use Rattle.whole.proofs.Lists.{exacts}
-use Rattle.transform.proofs.Rows.{hadamardSquare, hadamard-square}
+use Rattle.whole.proofs.Lists.{exacts, expressions}
+use Rattle.transform.specs.Hadamard.{H2}
+use Rattle.transform.proofs.Rows.{square-through}
 use Rattle.transform.proofs.inner.hadamard2.Statement.{statement}
 use Rattle.transform.proofs.inner.hadamard2.Tie as tie
 
@@ -22,6 +24,9 @@ g = add (inp 2) (inp 3)
 
 abbrev h : Code
 h = sub (inp 2) (inp 3)
+
+abbrev code : List Code
+code = add e g ∷ add f h ∷ sub e g ∷ sub f h ∷ []
 
 fit : (c : tie.Start) (z : Code) → T (ok w32 32768 z) → SFits w32 (raw w32 (c .args .t1) z)
 fit c z t = safe w32 32768 (c .args .t1) (c .pre) z t
@@ -77,7 +82,7 @@ sub-t26 c = fit (c .before .before .before .before .before .before .before .befo
 returns : tie.Need-returns
 returns c =
     let s = c .before .before .before .before .before .before .before .before in
-    exacts w32 32768 (s .args .t1) (s .pre) hadamardSquare tt ∙ hadamard-square (s .args .t1)
+    exacts w32 32768 (s .args .t1) (s .pre) code tt ∙ square-through H2 (expressions code) (s .args .t1) refl
 
 pub hadamard2-spec : {M : Type 1} → statement M
 hadamard2-spec =

@@ -1,13 +1,15 @@
 -- `transform::inner::hadamard_row` meets its contract: the code, reflected; that nothing overflows is one test that the checker computes.
 -- Assumes nothing.
-use mathlib.Core.Path.{_∙_}
+use mathlib.Core.Path.{refl, _∙_}
+use mathlib.Core.List.{List, [], _∷_}
 use lib.Dec.{T}
 use mir.Syntax.{w32}
 use mir.Val.{SFits}
 use Rattle.whole.proofs.Steps.{Code, inp, add, sub, safe, raw, ok}
-use Rattle.whole.proofs.Lists.{exacts}
+use Rattle.whole.proofs.Lists.{exacts, expressions}
 use Rattle.transform.specs.Block.{row, wide}
-use Rattle.transform.proofs.Rows.{hadamardRow, hadamard-row}
+use Rattle.transform.specs.Hadamard.{H4}
+use Rattle.transform.proofs.Rows.{row-through}
 use Rattle.transform.proofs.inner.hadamard_row.Statement.{statement}
 use Rattle.transform.proofs.inner.hadamard_row.Tie as tie
 
@@ -22,6 +24,9 @@ g = sub (inp 0) (inp 1)
 
 abbrev h : Code
 h = sub (inp 2) (inp 3)
+
+abbrev code : List Code
+code = add e f ∷ sub e f ∷ sub g h ∷ add g h ∷ []
 
 fit : (c : tie.Start) (z : Code) → T (ok w32 wide z) → SFits w32 (raw w32 (row (c .args .v)) z)
 fit c z t = safe w32 wide (row (c .args .v)) (c .pre) z t
@@ -54,7 +59,7 @@ returns : tie.Need-returns
 returns c =
     let s = c .before .before .before .before .before .before .before .before in
     let v = s .args .v in
-    exacts w32 wide (row v) (s .pre) hadamardRow tt ∙ hadamard-row (v .p) (v .q) (v .r) (v .s)
+    exacts w32 wide (row v) (s .pre) code tt ∙ row-through H4 (expressions code) (v .p) (v .q) (v .r) (v .s) refl
 
 pub hadamard-row-spec : {M : Type 1} → statement M
 hadamard-row-spec = tie.close (tie.spec add-e add-f sub-g sub-h add-p sub-q sub-r add-s returns)

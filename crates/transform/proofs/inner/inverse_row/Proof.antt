@@ -4,51 +4,39 @@ use mathlib.Core.Path.{_∙_}
 use lib.Dec.{T}
 use mir.Syntax.{w32}
 use mir.Val.{SFits}
-use Rattle.whole.proofs.Steps.{Code, inp, add, sub, shr, safe, raw, ok}
+use Rattle.whole.proofs.Steps.{Code, add, sub, safe, raw, ok}
 use Rattle.whole.proofs.Lists.{exacts}
 use Rattle.transform.specs.Block.{row, wide}
-use Rattle.transform.proofs.Rows.{inverseRow, inverse-row}
+use Rattle.transform.proofs.Rows.{evenSum, evenDifference, oddDifference, oddSum, inverseRow, inverse-row}
 use Rattle.transform.proofs.inner.inverse_row.Statement.{statement}
 use Rattle.transform.proofs.inner.inverse_row.Tie as tie
-
-abbrev e : Code
-e = add (inp 0) (inp 2)
-
-abbrev g : Code
-g = sub (inp 0) (inp 2)
-
-abbrev k : Code
-k = sub (shr (inp 1) 1) (inp 3)
-
-abbrev m : Code
-m = add (inp 1) (shr (inp 3) 1)
 
 fit : (c : tie.Start) (z : Code) → T (ok w32 wide z) → SFits w32 (raw w32 (row (c .args .v)) z)
 fit c z t = safe w32 wide (row (c .args .v)) (c .pre) z t
 
 add-e : tie.Need-add-e
-add-e c = fit (c .before .before) e tt
+add-e c = fit (c .before .before) evenSum tt
 
 sub-g : tie.Need-sub-g
-sub-g c = fit (c .before .before .before .before) g tt
+sub-g c = fit (c .before .before .before .before) evenDifference tt
 
 sub-k : tie.Need-sub-k
-sub-k c = fit (c .before .before .before .before .before .before .before .before) k tt
+sub-k c = fit (c .before .before .before .before .before .before .before .before) oddDifference tt
 
 add-m : tie.Need-add-m
-add-m c = fit (c .before .before .before .before .before .before .before .before .before .before .before .before) m tt
+add-m c = fit (c .before .before .before .before .before .before .before .before .before .before .before .before) oddSum tt
 
 add-p : tie.Need-add-p
-add-p c = fit (c .before .before .before .before .before .before .before .before .before .before .before .before) (add e m) tt
+add-p c = fit (c .before .before .before .before .before .before .before .before .before .before .before .before) (add evenSum oddSum) tt
 
 add-q : tie.Need-add-q
-add-q c = fit (c .before .before .before .before .before .before .before .before .before .before .before .before) (add g k) tt
+add-q c = fit (c .before .before .before .before .before .before .before .before .before .before .before .before) (add evenDifference oddDifference) tt
 
 sub-r : tie.Need-sub-r
-sub-r c = fit (c .before .before .before .before .before .before .before .before .before .before .before .before) (sub g k) tt
+sub-r c = fit (c .before .before .before .before .before .before .before .before .before .before .before .before) (sub evenDifference oddDifference) tt
 
 sub-s : tie.Need-sub-s
-sub-s c = fit (c .before .before .before .before .before .before .before .before .before .before .before .before) (sub e m) tt
+sub-s c = fit (c .before .before .before .before .before .before .before .before .before .before .before .before) (sub evenSum oddSum) tt
 
 returns : tie.Need-returns
 returns c =
