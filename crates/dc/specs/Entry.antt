@@ -15,7 +15,6 @@ use Rattle.whole.specs.Range.{firstOutside}
 use Rattle.quantizer.specs.Range as built
 use Rattle.quantizer.specs.declared.Built.{Built}
 use Rattle.residual.specs.Entry.{firstWide, quantizerTest, rangeTest}
-use Rattle.residual.specs.Order.{inZigzag}
 use Rattle.dc.specs.Dc.{lumaLevels, lumaValues, chromaLevels, chromaValues}
 
 -- LENGTH of what is lent and of what is written, then QUANTIZER: what all four test first
@@ -41,22 +40,19 @@ residualTest n dc = test (eqb (firstLarge dc) n) (refusal.Residual (firstLarge d
 abbrev pub levelTest : ℕ → List ℤ → Test Refusal
 levelTest n levels = test (eqb (firstWide levels) n) (refusal.Level (firstWide levels))
 
--- OWN: "the luma DC coder's own levels rescale out of that range", place "as for 6": in the order of the levels
-abbrev pub ownTest : List ℤ → Test Refusal
-ownTest values = test (eqb (firstWide (inZigzag values)) 16) (refusal.Own (firstWide (inZigzag values)))
-
 -- RANGE where the levels are in raster order; `rangeTest` is that of the zigzag
 abbrev pub rasterRangeTest : ℕ → List ℤ → Test Refusal
 rasterRangeTest n values = test (eqb (firstWide values) n) (refusal.Range (firstWide values))
 
--- ---- luma_dc_levels: LENGTH, QUANTIZER, RESIDUAL, OWN
+-- ---- to levels, of n values: LENGTH, QUANTIZER, RESIDUAL
+
+abbrev pub dcLevelsTests : ℕ → ℕ → List ℤ → List ℤ → List (Test Refusal)
+dcLevelsTests n qp dc out = lentTests n qp (length dc) (length out) ++ (residualTest n dc ∷ [])
+
+-- ---- luma_dc_levels: these of sixteen
 
 abbrev pub lumaLevelsTests : ℕ → List ℤ → List ℤ → List (Test Refusal)
-lumaLevelsTests qp dc out =
-    lentTests 16 qp (length dc) (length out)
-    ++ (residualTest 16 dc
-    ∷ ownTest (lumaValues qp (lumaLevels qp dc))
-    ∷ [])
+lumaLevelsTests qp dc out = dcLevelsTests 16 qp dc out
 
 pub record LumaLevels (qp : ℕ) (dc out : List ℤ) (r : Answer) (after : List ℤ) : Type 0 where
   pub says : Says (said r) (chain (lumaLevelsTests qp dc out))
@@ -75,13 +71,10 @@ pub record LumaValues (qp : ℕ) (levels out : List ℤ) (r : Answer) (after : L
   pub says : Says (said r) (chain (lumaValuesTests qp levels out))
   pub wrote : after ≡ written (chain (lumaValuesTests qp levels out)) (lumaValues qp levels) out
 
--- ---- chroma_dc_levels: LENGTH, QUANTIZER, RESIDUAL
+-- ---- chroma_dc_levels: these of four
 
 abbrev pub chromaLevelsTests : ℕ → List ℤ → List ℤ → List (Test Refusal)
-chromaLevelsTests qp dc out =
-    lentTests 4 qp (length dc) (length out)
-    ++ (residualTest 4 dc
-    ∷ [])
+chromaLevelsTests qp dc out = dcLevelsTests 4 qp dc out
 
 pub record ChromaLevels (qp : ℕ) (dc out : List ℤ) (r : Answer) (after : List ℤ) : Type 0 where
   pub says : Says (said r) (chain (chromaLevelsTests qp dc out))

@@ -1,3 +1,4 @@
+pub mod OwnDc
 pub mod Told
 pub mod Unique
 pub mod Words

@@ -3,8 +3,10 @@
 --     place-told      above it a refusal has its place, up to 2^56
 --     value-told      above it a success has its value
 --     done-exactly-if, refused-word     the low byte is 0 exactly if all tests pass; the word of the first test that fails
+--     passed-word                       a word whose low byte is 0: the tests passed
+--     seven-unsent                      no word has the number 7
 -- Assumes nothing.
-use mathlib.Core.Path.{_≡_, refl, ap, _∙_}
+use mathlib.Core.Path.{_≡_, refl, sym, ap, _∙_}
 use mathlib.Core.List.{List}
 use mathlib.Core.Logic.{_↔_}
 use Prim.Native.Nat.{ℕ, _+_, _*_, _/_, _%_, _<_}
@@ -13,7 +15,8 @@ use Rattle.lists.specs.Chain.{Test, Verdict, pass, stop, chain}
 use Rattle.lists.proofs.Chain.{AllPass, RefusedWith, chain-exactly-if}
 use Rattle.refusal.specs.Number.{number, numberOf, placeOf}
 use Rattle.refusal.specs.declared.Refusal.{Refusal}
-use Rattle.refusal.specs.declared.Refusal.the-variants.{Length, Size, Flags, Quantizer, Mode, Residual, Level, Range, Own, Form}
+use Rattle.refusal.specs.declared.Refusal.the-variants.{Length, Size, Flags, Quantizer, Mode, Residual, Level, Range, Form}
+use Rattle.refusal.proofs.Same.{seven-unused}
 use Rattle.fleecebutton.specs.Word.{places, wordOf}
 
 -- a refusal's number is a byte, and not that of success
@@ -26,7 +29,6 @@ number-small (Mode k) = (omega arith, omega arith)
 number-small (Residual k) = (omega arith, omega arith)
 number-small (Level k) = (omega arith, omega arith)
 number-small (Range k) = (omega arith, omega arith)
-number-small (Own k) = (omega arith, omega arith)
 number-small (Form k) = (omega arith, omega arith)
 
 pub number-told : (v : Verdict Refusal) (value : ℕ) → wordOf v value % 256 ≡ number v
@@ -52,3 +54,10 @@ done-exactly-if ts value = (
 
 pub refused-word : (ts : List (Test Refusal)) (value : ℕ) (r : Refusal) → RefusedWith ts r → wordOf (chain ts) value ≡ numberOf r + 256 * (placeOf r % places)
 refused-word ts value r h = ap (λ (v : Verdict Refusal). wordOf v value) (chain-exactly-if ts .refuses r .1 h)
+
+pub passed-word : (ts : List (Test Refusal)) (value : ℕ) {w : ℕ} → w ≡ wordOf (chain ts) value → w % 256 ≡ 0 → chain ts ≡ pass
+passed-word ts value is d = done (chain ts) value (ap (λ (u : ℕ). u % 256) (sym is) ∙ d)
+
+-- 7 is retired: no exported function sends it
+pub seven-unsent : (v : Verdict Refusal) (value : ℕ) → wordOf v value % 256 ≡ 7 → ⊥
+seven-unsent v value e = seven-unused v (sym (number-told v value) ∙ e)

@@ -2,17 +2,21 @@
 --     by-class       sixteen entries, one for each class, in the order of the places
 --     scale-small    a scale times a power of two
 --     scaled-block   the scaling rule at k = 0: a level times its scale
+--     scaled-within  how large the scaling rule's numbers are, over k and the period
 --     scalesOf, scales-each, rescaled-by     the sixteen scales, their bound, and that levels times them are the rescaled numbers
 -- Assumes nothing.
 use mathlib.Core.Path.{_≡_, sym, ap, _∙_}
+use mathlib.Core.Bool.{Bool, true, false, not, cond}
 use mathlib.Core.List.{List, [], _∷_}
-use Prim.Native.Nat.{ℕ, _-_, _*_, _^_, _≤_, zero-le}
-use native.Mathlib.Nat.{mul-le-mul}
+use Prim.Native.Nat.{ℕ, _-_, _*_, _^_, _<_, _≤_, zero-le}
+use native.Mathlib.Nat.{mul-le-mul, mul-le-mul-right, le-of-mul-le-mul-left}
 use native.Mathlib.Omega.{arith}
 use borrow.Author.Tests.{le-leb}
-use lib.IntN.{ℤ, pos, _*ℤ_}
+use lib.Dec.{T, leb, leb→le, nleb→lt}
+use lib.IntN.{ℤ, pos, _+ℤ_, _*ℤ_}
 use lib.ListN.{getD}
-use lib.Pow.{pow-mono}
+use lib.Pow.{pow-mono, pow-pos, pow-lt, pow-add}
+use lib.Signed.{shrZ}
 use Rattle.lists.specs.Tab.{tab}
 use Rattle.lists.proofs.Tab.{tab-same, getD-tab}
 use Rattle.quantizer.specs.Range.{highest, periodOf, remainderOf}
@@ -20,7 +24,8 @@ use Rattle.quantizer.specs.Tables.{vOf, classAtPlace}
 use Rattle.quantizer.specs.declared.Class.{Class}
 use Rattle.quantizer.specs.declared.Class.the-variants.{A, B, C}
 use Rattle.quantizer.proofs.Tables.{v-small}
-use Rattle.whole.specs.Bounds.{Each}
+use Rattle.whole.specs.Bounds.{Within, Each}
+use Rattle.whole.proofs.Bound.{abs-mul, shr-within}
 use Rattle.whole.proofs.Lists.{each-tab}
 use Rattle.whole.proofs.Laws.{*ℤ-assoc}
 use Rattle.residual.specs.Rescale.{scaledBy, vAt, rescaled}
@@ -39,6 +44,28 @@ unfolding scaledBy
 scaled-block p v x =
     let whole : p - 0 ≡ p = omega arith in
     rw (le-leb 0 p zero-le, whole) (sym (*ℤ-assoc x (pos v) (pos (2 ^ p))))
+
+power-parts : (i j : ℕ) → i ≤ j → 2 ^ i * 2 ^ (j - i) ≡ 2 ^ j
+power-parts i j h = sym (pow-add 2 i (j - i)) ∙ ap (λ (n : ℕ). 2 ^ n) (omega arith)
+
+-- numbers up to M come to N at the most where M * 2^p is no more than 2^k * N
+pub scaled-within : (k p M N : ℕ) → M * 2 ^ p ≤ 2 ^ k * N → (x : ℤ) → Within M x → Within N (scaledBy k p x)
+unfolding scaledBy
+scaled-within k p M N room x w = by (leb k p) (leb→le k p) (nleb→lt k p)
+  where
+    by : (c : Bool) → (T c → k ≤ p) → (T (not c) → p < k)
+        → Within N (cond c (x *ℤ pos (2 ^ (p - k))) (shrZ (x +ℤ pos (2 ^ (k - p - 1))) (2 ^ (k - p))))
+    by true f g =
+        let h = f tt in
+        let split : 2 ^ k * 2 ^ (p - k) ≡ 2 ^ p = power-parts k p h in
+        let most : M * 2 ^ (p - k) ≤ N = le-of-mul-le-mul-left {k = 2 ^ k} (omega (arith, ap (λ (n : ℕ). M * n) split)) (pow-pos k) in
+        let size = mul-le-mul-right (2 ^ (p - k)) (w .size) in
+        record { size = omega (arith, abs-mul x (pos (2 ^ (p - k)))) }
+    by false f g =
+        let h = g tt in
+        let split : 2 ^ p * 2 ^ (k - p) ≡ 2 ^ k = power-parts p k (omega arith) in
+        let most : M ≤ 2 ^ (k - p) * N = le-of-mul-le-mul-left {k = 2 ^ p} (omega (arith, ap (λ (n : ℕ). n * N) split)) (pow-pos p) in
+        shr-within (2 ^ (k - p)) N (2 ^ (k - p - 1)) (pow-lt (omega arith)) x (record { size = omega arith })
 
 abbrev pub scalesOf : ℕ → List ℤ
 scalesOf qp = tab 16 (λ place. pos (vAt qp place * 2 ^ periodOf qp))

@@ -1,20 +1,17 @@
 -- `dc::chroma_dc_levels` meets its contract: each verdict by its law, and the levels by value between two copies. Assumes nothing.
 use borrow.Author.Needs.{needs}
-use mathlib.Core.Path.{_≡_, sym, ap, _∙_}
-use mathlib.Core.List.{[], _∷_}
-use Prim.Native.Nat.{ℕ}
+use mathlib.Core.Path.{sym, ap, _∙_}
+use Prim.Native.Nat.{ℕ, _≤_}
 use native.Mathlib.Omega.{arith}
-use lib.IntN.{pos, negsuc}
 use lib.ListN.{length}
 use Rattle.lists.specs.Chain.{stop}
-use Rattle.lists.proofs.Chain.{chain-passed, chain-refused, written-passed, written-refused}
-use Rattle.whole.proofs.Range.{none-each}
+use Rattle.lists.proofs.Chain.{written-passed, written-refused}
 use Rattle.refusal.specs.declared.Refusal.the-variants.{Residual}
 use Rattle.refusal.proofs.Same.{says}
 use Rattle.transform.proofs.Sides.{kept}
 use Rattle.dc.specs.Dc.{chromaLevels}
-use Rattle.dc.specs.Entry.{firstLarge, residualTest, lentTests}
-use Rattle.dc.proofs.Entry.{Accepted, accepted-legal, accepted-refused, place-found, place-none, at-end}
+use Rattle.dc.specs.Entry.{firstLarge}
+use Rattle.dc.proofs.Entry.{Accepted, accepted-legal, accepted-refused, dc-levels-refused, dc-levels-large, dc-levels-fine, none-large, all-small}
 use Rattle.dc.proofs.chroma_dc_levels.Statement.{statement}
 use Rattle.dc.proofs.chroma_dc_levels.Tie as tie
 
@@ -28,8 +25,8 @@ told f =
     accepted-legal 4 (s .args .qp) (length (s .args .dc .now)) (length (s .args .levels .now)) (f .before .before .before .before .accepted .ensures) (f .before .before .quantizer .given .1)
 
 -- no DC value is too large
-none : (c : tie.Else1) → firstLarge (start (c .before) .args .dc .now) ≡ 4
-none c = at-end (negsuc 4079) (pos 4080) (start (c .before) .args .dc .now) 4 (told (c .before) .long) (omega (arith, c .before .first-outside .ensures, c .if1 .left))
+scanned : (c : tie.Else1) → 4 ≤ firstLarge (start (c .before) .args .dc .now)
+scanned c = omega (arith, c .before .first-outside .ensures, c .if1 .left)
 
 accepted-requires : tie.Need-accepted-requires
 accepted-requires c κs = search needs
@@ -47,12 +44,9 @@ returns : tie.Need-returns
 returns c =
     let f = c .before in
     let s = start f in
-    let dc = s .args .dc .now in
     let is = f .first-outside .ensures in
-    let e =
-    chain-passed (lentTests 4 (s .args .qp) (length dc) (length (s .args .levels .now))) (residualTest 4 dc ∷ []) (told f .passed)
-    ∙ place-found 4 (firstLarge dc) (Residual (firstLarge dc)) [] (omega (arith, is, c .if1 .taken)) in
-    record { says = says (ap (λ (k : ℕ). stop (Residual k)) is ∙ sym e); wrote = written-refused (chromaLevels (s .args .qp) dc) e }
+    let e = dc-levels-large 4 (s .args .qp) (s .args .dc .now) (s .args .levels .now) (told f .passed) (omega (arith, is, c .if1 .taken)) in
+    record { says = says (ap (λ (k : ℕ). stop (Residual k)) is ∙ sym e); wrote = written-refused (chromaLevels (s .args .qp) (s .args .dc .now)) e }
 
 slice-aggregate-copy : tie.Need-slice-aggregate-copy
 slice-aggregate-copy c = search needs
@@ -64,8 +58,8 @@ chroma-levels-requires : tie.Need-chroma-levels-requires
 chroma-levels-requires c κs =
     let w = c .before .before in
     let f = w .before .before in
-    let dc = start f .args .dc .now in
-    (rw (told f .number) (told f .legal), kept 4080 (c .before .copy .ensures) (none-each (negsuc 4079) (pos 4080) dc 4080 tt tt (omega (arith, told f .long, none (w .before)))))
+    let s = start f in
+    (rw (told f .number) (told f .legal), kept 4080 (c .before .copy .ensures) (all-small 4 (s .args .dc .now) (told f .long) (scanned (w .before))))
 
 slice-aggregate-copy-2 : tie.Need-slice-aggregate-copy-2
 slice-aggregate-copy-2 c = search needs
@@ -79,12 +73,10 @@ returns-2 : tie.Need-returns-2
 returns-2 c =
     let a = c .before .before .before in
     let s = a .before in
-    let dc = s .args .dc .now in
-    let out = s .args .levels .now in
     let e =
-    chain-refused (lentTests 4 (s .args .qp) (length dc) (length out)) (residualTest 4 dc ∷ []) _
-    (accepted-refused 4 (s .args .qp) (length dc) (length out) (a .accepted .ensures) (c .before .refusal .given .1)) in
-    record { says = says (sym e); wrote = written-refused (chromaLevels (s .args .qp) dc) e }
+    dc-levels-refused 4 (s .args .qp) (s .args .dc .now) (s .args .levels .now) _
+    (accepted-refused 4 (s .args .qp) (length (s .args .dc .now)) (length (s .args .levels .now)) (a .accepted .ensures) (c .before .refusal .given .1)) in
+    record { says = says (sym e); wrote = written-refused (chromaLevels (s .args .qp) (s .args .dc .now)) e }
 
 same-length : tie.Need-same-length
 same-length c = search needs
@@ -96,13 +88,11 @@ returns-3 c =
     let w = k .before in
     let f = w .before .before in
     let s = start f in
-    let dc = s .args .dc .now in
-    let out = s .args .levels .now in
     let e =
-    chain-passed (lentTests 4 (s .args .qp) (length dc) (length out)) (residualTest 4 dc ∷ []) (told f .passed)
-    ∙ place-none 4 (firstLarge dc) (Residual (firstLarge dc)) [] (none (w .before)) in
+    dc-levels-fine 4 (s .args .qp) (s .args .dc .now) (s .args .levels .now) (told f .passed)
+    (none-large 4 (s .args .dc .now) (told f .long) (scanned (w .before))) in
     let made = c .before .copy2 .ensures ∙ l .chroma-levels .ensures ∙ (λ i. chromaLevels (told f .number i) (k .copy .ensures i)) in
-    record { says = says (sym e); wrote = written-passed out e made }
+    record { says = says (sym e); wrote = written-passed (s .args .levels .now) e made }
 
 pub chroma-dc-levels-spec : {M : Type 1} → statement M
 chroma-dc-levels-spec =
