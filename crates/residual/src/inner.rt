@@ -1,9 +1,8 @@
 // Levels and rescaled numbers of a block by value, for callers that have tested their numbers.
-ghost use mathlib.Core.List.{List};
 ghost use mathlib.Core.Path.{_≡_};
 ghost use Prim.Native.Nat.{ℕ, _*_, _^_, _<_, _≤_};
 ghost use lib.IntN.{ℤ, pos, _+ℤ_, _*ℤ_};
-ghost use lib.ListN.{getD};
+ghost use lib.ListN.{length, getD};
 ghost use Rattle.lists.specs.Tab.{tab};
 ghost use Rattle.whole.specs.Clip.{clip};
 ghost use Rattle.whole.specs.Bounds.{Within, Each};
@@ -106,9 +105,10 @@ pub fn in_zigzag(l: [i32; 16]) -> [i32; 16]
     out
 }
 
-// And from zigzag order back into raster order.
-pub fn in_places(l: [i32; 16]) -> [i32; 16]
-    ensures { λ r. ⌜ r ≡ inPlaces l ⌝ }
+// And from zigzag order back into raster order, of lent numbers.
+pub(crate) fn placed(l: &[i32]) -> [i32; 16]
+    requires { ⌜ length (now l) ≡ 16 ⌝ }
+    ensures { λ r. ⌜ r ≡ inPlaces (now (l .entry)) ⌝ }
 {
     let mut out = [0i32; 16];
     for place in 0usize..16 {
@@ -116,6 +116,13 @@ pub fn in_places(l: [i32; 16]) -> [i32; 16]
         out[place] = l[step];
     }
     out
+}
+
+// The same by value.
+pub fn in_places(l: [i32; 16]) -> [i32; 16]
+    ensures { λ r. ⌜ r ≡ inPlaces l ⌝ }
+{
+    placed(&l)
 }
 
 fn scaled(level: i32, scale: i32) -> i32
@@ -151,16 +158,22 @@ fn sample(prediction: u8, residual: i32) -> u8
     whole::inner::clip(prediction as i32 + residual, 255)
 }
 
-// Sixteen predicted samples plus their residuals, clipped.
-pub(crate) fn added(prediction: [u8; 16], residual: [i32; 16]) -> [u8; 16]
-    requires { ⌜ Each 1000000 residual ⌝ }
-    ensures { λ r. ⌜ r ≡ added prediction residual ⌝ }
+// Sixteen residuals added to their predicted samples, clipped, in their places.
+fn add(samples: &mut [u8], residual: [i32; 16])
+    requires { ⌜ (length (now samples) ≡ 16) × (Each 1000000 residual) ⌝ }
+    ensures { λ _. ⌜ now (samples .exit) ≡ added (now (samples .entry)) residual ⌝ }
 {
-    let mut out = [0u8; 16];
     for place in 0usize..16 {
-        out[place] = sample(prediction[place], residual[place]);
+        samples[place] = sample(samples[place], residual[place]);
     }
-    out
+}
+
+// The samples of sixteen rescaled numbers, written over their prediction.
+pub(crate) fn rebuild_over(samples: &mut [u8], numbers: [i32; 16])
+    requires { ⌜ (length (now samples) ≡ 16) × (Each 32768 numbers) ⌝ }
+    ensures { λ _. ⌜ now (samples .exit) ≡ samplesOf (now (samples .entry)) numbers ⌝ }
+{
+    add(samples, transform::inner::inverse_block(numbers));
 }
 
 // The samples of a prediction and of sixteen rescaled numbers.
@@ -168,5 +181,7 @@ pub fn samples(prediction: [u8; 16], numbers: [i32; 16]) -> [u8; 16]
     requires { ⌜ Each 32768 numbers ⌝ }
     ensures { λ r. ⌜ r ≡ samplesOf prediction numbers ⌝ }
 {
-    added(prediction, transform::inner::inverse_block(numbers))
+    let mut out = prediction;
+    rebuild_over(&mut out, numbers);
+    out
 }

@@ -34,7 +34,7 @@ pub fn levels(qp: u8, residual: &[i32], out: &mut [i32]) -> Answer
     Answer::Done
 }
 
-// RANGE of sixteen rescaled numbers; then the samples.
+// RANGE of sixteen rescaled numbers; then the samples, written over a copy of the prediction in `out`.
 fn finished(prediction: &[u8], numbers: [i32; 16], out: &mut [u8]) -> Answer
     requires { ⌜ (length (now prediction) ≡ 16) × (length (now out) ≡ 16) ⌝ }
     ensures { λ r. ⌜ Finishes (now (prediction .entry)) numbers (now (out .entry)) r (now (out .exit)) ⌝ }
@@ -44,10 +44,8 @@ fn finished(prediction: &[u8], numbers: [i32; 16], out: &mut [u8]) -> Answer
     if place < 16 {
         return Answer::Refused(Refusal::Range(place));
     }
-    let mut p = [0u8; 16];
-    bytes::copy(prediction, &mut p);
-    let made = inner::samples(p, numbers);
-    bytes::copy(&made, out);
+    bytes::copy(prediction, out);
+    inner::rebuild_over(out, numbers);
     Answer::Done
 }
 
@@ -82,9 +80,7 @@ pub fn rebuild(qp: u8, prediction: &[u8], levels: &[i32], out: &mut [u8]) -> Ans
     match accepted(16, 0, qp, prediction.len(), levels, out.len()) {
         Built::Refused(refusal) => Answer::Refused(refusal),
         Built::Legal(quantizer) => {
-            let mut l = [0i32; 16];
-            whole::inner::copy(levels, &mut l);
-            let numbers = inner::rescaled(quantizer, inner::in_places(l));
+            let numbers = inner::rescaled(quantizer, inner::placed(levels));
             finished(prediction, numbers, out)
         }
     }

@@ -1,5 +1,5 @@
 -- Rows of four in the code, and from its four rows to the block.
---     inverseRow, inverse-row                  the inverse's code, reflected: over ℤ it is the inverse's sums
+--     inverseLine                              the inverse's code, reflected
 --     row-through, square-through              code over ℤ whose normal form is a matrix's: the row through it, and all of the 2x2
 --     back-local, back-grows                   the inverse's sums look at four numbers, and are four times as large at the most
 --     gathered                                 sixteen numbers, read one by one
@@ -19,7 +19,7 @@ use Rattle.lists.proofs.Tab.{getD-tab, tab-of}
 use Rattle.whole.specs.Bounds.{Each}
 use Rattle.whole.proofs.Ring.{Expression, var, con, _⊕_, _⊗_, values, normals, rings}
 use Rattle.whole.proofs.Steps.{Code, inp, add, sub, shr, each-at}
-use Rattle.whole.proofs.Lists.{gather, each-gather, ideals, oks, mosts, sizes}
+use Rattle.whole.proofs.Lists.{gather, each-gather, oks, mosts, sizes}
 use Rattle.transform.specs.Block.{row, flat, line, byRow, through}
 use Rattle.transform.specs.Hadamard.{hadamard}
 use Rattle.transform.specs.Inverse.{butterfly, back}
@@ -42,12 +42,8 @@ oddDifference = sub (shr (inp 1) 1) (inp 3)
 abbrev pub oddSum : Code
 oddSum = add (inp 1) (shr (inp 3) 1)
 
-abbrev pub inverseRow : List Code
-inverseRow = add evenSum oddSum ∷ add evenDifference oddDifference ∷ sub evenDifference oddDifference ∷ sub evenSum oddSum ∷ []
-
-pub inverse-row : (a b c d : ℤ) → ideals (a ∷ b ∷ c ∷ d ∷ []) inverseRow ≡ tab 4 (back (line (a ∷ b ∷ c ∷ d ∷ [])))
-unfolding tab
-inverse-row a b c d = refl
+abbrev pub inverseLine : List Code
+inverseLine = add evenSum oddSum ∷ add evenDifference oddDifference ∷ sub evenDifference oddDifference ∷ sub evenSum oddSum ∷ []
 
 -- ---- the matrices' rows, for the solver
 
@@ -91,10 +87,10 @@ back-local x y h i l =
     ap (λ (z : List ℤ). getD z i (pos 0))
     (λ t. butterfly (h 0 (omega arith) t) (h 1 (omega arith) t) (h 2 (omega arith) t) (h 3 (omega arith) t))
 
-pub back-grows : (B M : ℕ) → T (oks w32 B inverseRow) → T (mosts B M inverseRow) → Grows 4 back B M
+pub back-grows : (B M : ℕ) → T (oks w32 B inverseLine) → T (mosts B M inverseLine) → Grows 4 back B M
 back-grows B M t u x h i l =
     each-at M (butterfly (x 0) (x 1) (x 2) (x 3))
-    (sizes w32 B (x 0 ∷ x 1 ∷ x 2 ∷ x 3 ∷ []) (h 0 (omega arith), (h 1 (omega arith), (h 2 (omega arith), (h 3 (omega arith), tt)))) M inverseRow t u) i
+    (sizes w32 B (x 0 ∷ x 1 ∷ x 2 ∷ x 3 ∷ []) (h 0 (omega arith), (h 1 (omega arith), (h 2 (omega arith), (h 3 (omega arith), tt)))) M inverseLine t u) i
 
 -- ---- a block from its rows
 

@@ -1,7 +1,11 @@
-// The transforms of whole blocks, by value. Sixteen numbers are four rows of four inside this module.
+// The transforms of whole blocks, by value. Forward and Hadamard hold sixteen numbers as four rows of four; the inverse writes over one array.
 ghost use mathlib.Core.Path.{_≡_};
-ghost use Rattle.whole.specs.Bounds.{Each};
+ghost use Prim.Native.Nat.{ℕ, _+_, _*_, _<_};
+ghost use lib.IntN.{pos};
+ghost use lib.ListN.{length, getD};
+ghost use Rattle.lists.specs.Stores.{stores};
 ghost use Rattle.lists.specs.Tab.{tab};
+ghost use Rattle.whole.specs.Bounds.{Within, Each};
 ghost use Rattle.transform.specs.Block.{row, flat, line, turn, byRow, through, wide};
 ghost use Rattle.transform.specs.Forward.{C, forward};
 ghost use Rattle.transform.specs.Hadamard.{H4, H2, hadamard};
@@ -145,37 +149,26 @@ fn forward_rows(m: Block) -> Block
     }
 }
 
-// One row of four through the inverse's sums.
-fn inverse_row(v: Quad) -> Quad
-    requires { ⌜ Each wide (row v) ⌝ }
-    ensures { λ r. ⌜ row r ≡ tab 4 (back (line (row v))) ⌝ }
+// Four numbers that stand a step apart through the inverse's sums, in their places.
+fn inverse_line(x: &mut [i32], at: usize, step: usize)
+    requires { ⌜ (length (now x) ≡ 16) × (at + step * 3 < 16) × ((j : ℕ) → j < 4 → Within wide (getD (now x) (at + step * j) (pos 0))) ⌝ }
+    ensures { λ _. ⌜ now (x .exit) ≡ stores 4 (λ j. at + step * j) (back (λ j. getD (now (x .entry)) (at + step * j) (pos 0))) (now (x .entry)) ⌝ }
 {
-    let e = v.p + v.r;
-    let g = v.p - v.r;
-    let k = (v.q >> 1) - v.s;
-    let m = v.q + (v.s >> 1);
-    let p = e + m;
-    let q = g + k;
-    let r = g - k;
-    let s = e - m;
-    Quad { p, q, r, s }
-}
-
-// The same of each row.
-fn inverse_rows(m: Block) -> Block
-    requires { ⌜ Each wide (flat m) ⌝ }
-    ensures { λ r. ⌜ flat r ≡ byRow 4 back (flat m) ⌝ }
-{
-    let a = m.a;
-    let b = m.b;
-    let c = m.c;
-    let d = m.d;
-    Block {
-        a: inverse_row(a),
-        b: inverse_row(b),
-        c: inverse_row(c),
-        d: inverse_row(d),
-    }
+    let second = at + step;
+    let third = second + step;
+    let last = third + step;
+    let p = x[at];
+    let q = x[second];
+    let r = x[third];
+    let s = x[last];
+    let e = p + r;
+    let g = p - r;
+    let k = (q >> 1) - s;
+    let m = q + (s >> 1);
+    x[at] = e + m;
+    x[second] = g + k;
+    x[third] = g - k;
+    x[last] = e - m;
 }
 
 // One row of four through H.
@@ -211,16 +204,16 @@ fn hadamard_rows(m: Block) -> Block
     }
 }
 
-// (value + 32) >> 6 of each.
-fn rounded(x: [i32; 16]) -> [i32; 16]
-    requires { ⌜ Each wide x ⌝ }
-    ensures { λ r. ⌜ r ≡ tab 16 (λ place. rounded (line x place)) ⌝ }
+// (value + 32) >> 6 of each number of a slice, in its place.
+fn round_all(x: &mut [i32])
+    requires { ⌜ Each wide (now x) ⌝ }
+    ensures { λ _. ⌜ now (x .exit) ≡ tab (length (now (x .entry))) (λ place. rounded (line (now (x .entry)) place)) ⌝ }
 {
-    let mut r = [0i32; 16];
-    for k in 0..16 {
-        r[k] = (x[k] + 32) >> 6;
+    let mut k = 0;
+    while k < x.len() {
+        x[k] = (x[k] + 32) >> 6;
+        k += 1;
     }
-    r
 }
 
 // The coefficients of sixteen residuals.
@@ -236,7 +229,15 @@ pub fn inverse_block(d: [i32; 16]) -> [i32; 16]
     requires { ⌜ Each 32768 d ⌝ }
     ensures { λ r. ⌜ r ≡ inverse d ⌝ }
 {
-    rounded(in_raster(turned(inverse_rows(turned(inverse_rows(in_rows(d)))))))
+    let mut x = d;
+    for row in 0usize..4 {
+        inverse_line(&mut x, 4 * row, 1);
+    }
+    for column in 0usize..4 {
+        inverse_line(&mut x, column, 4);
+    }
+    round_all(&mut x);
+    x
 }
 
 // Sixteen luma DC values or levels through H.

@@ -1,7 +1,6 @@
 -- `residual::rebuild` meets its contract: the first tests are `accepted`, the last one and the samples are `finished`. Assumes nothing.
-use mathlib.Core.Path.{_≡_, sym, ap, subst, _∙_}
+use mathlib.Core.Path.{sym, ap, subst, _∙_}
 use mathlib.Core.List.{List, [], _∷_}
-use Prim.Native.Nat.{ℕ}
 use lib.IntN.{ℤ}
 use lib.ListN.{length}
 use Rattle.lists.specs.Chain.{Verdict, written}
@@ -10,7 +9,6 @@ use Rattle.whole.specs.Bounds.{Each}
 use Rattle.refusal.specs.declared.Refusal.{Refusal}
 use Rattle.refusal.proofs.Same.{says}
 use Rattle.residual.specs.Entry.{levelTests, rangeTest, Finishes}
-use Rattle.residual.specs.Order.{inPlaces}
 use Rattle.residual.specs.Rescale.{rescaled}
 use Rattle.residual.specs.Rebuild.{numbersOf, samplesOf}
 use Rattle.residual.proofs.Entry.{Accepted, accepted-legal, accepted-refused}
@@ -35,24 +33,17 @@ enum-known-refusal c = search needs
 enum-known-quantizer : tie.Need-enum-known-quantizer
 enum-known-quantizer c = search needs
 
-slice-aggregate-copy : tie.Need-slice-aggregate-copy
-slice-aggregate-copy c = search needs
-
-copy-requires : tie.Need-copy-requires
-copy-requires c κs = learnt (c .before .before) .count
-
-in-places-requires : tie.Need-in-places-requires
-in-places-requires c κs = search needs
+placed-requires : tie.Need-placed-requires
+placed-requires c κs = learnt (c .before) .count
 
 rescaled-requires : tie.Need-rescaled-requires
 rescaled-requires c κs =
-    let k = c .before .before in
-    let f = learnt (k .before .before .before) in
-    let l = k .before .before .before .before .before .before .before .before .args .levels .now in
-    (rw (f .number) (f .legal), subst (Each 32768) (sym (c .in-places .ensures ∙ ap inPlaces (k .copy .ensures))) (places-each 32768 l (f .small)))
+    let q = c .before .before in
+    let f = learnt q in
+    (rw (f .number) (f .legal), subst (Each 32768) (sym (c .placed .ensures)) (places-each 32768 (q .before .before .before .before .before .args .levels .now) (f .small)))
 
 finished-requires : tie.Need-finished-requires
-finished-requires c κs = let f = learnt (c .before .before .before .before .before .before .before) in (f .long, f .space)
+finished-requires c κs = let f = learnt (c .before .before .before .before) in (f .long, f .space)
 
 returns : tie.Need-returns
 returns c =
@@ -68,11 +59,11 @@ returns-2 : tie.Need-returns-2
 returns-2 c =
     let g = c .before .before in
     let r = g .before .before in
-    let k = r .before .before .before in
-    let q = k .before .before .before in
+    let p = r .before in
+    let q = p .before .before in
     let f = learnt q in
     let a = q .before .before .before .before .before .args in
-    let d = r .rescaled .ensures ∙ (λ i. rescaled (f .number i) ((r .before .in-places .ensures ∙ ap inPlaces (k .copy .ensures)) i)) in
+    let d = r .rescaled .ensures ∙ (λ i. rescaled (f .number i) (p .placed .ensures i)) in
     let v = chain-passed (levelTests 16 0 (a .qp) (length (a .prediction .now)) (a .levels .now) (length (a .out .now))) (rangeTest (numbersOf (a .qp) (a .levels .now)) ∷ []) (f .passed) in
     let x = subst (λ (z : List ℤ). Finishes (a .prediction .now) z (a .out .now) (g .finished .result) (g .finished .last .1 .1 .0)) d (g .finished .ensures) in
     record { says = rw v (x .says); wrote = rw v (x .wrote) }
@@ -84,9 +75,7 @@ rebuild-spec =
     accepted-requires
     enum-known-refusal
     enum-known-quantizer
-    slice-aggregate-copy
-    copy-requires
-    in-places-requires
+    placed-requires
     rescaled-requires
     finished-requires
     returns
