@@ -194,6 +194,11 @@ static uint64_t code_block(void) {
                          rebuilt.at, rebuilt.length);
 }
 
+static uint64_t promised_distance(void) {
+    uint8_t qp = (uint8_t)number();
+    return fb_promised_distance(qp);
+}
+
 static uint64_t code_plane(void) {
     size_t width = (size_t)number();
     size_t height = (size_t)number();
@@ -217,9 +222,9 @@ static uint64_t decode_plane(void) {
 
 /* The number of a function in a request is its place here; tests/differential has the same order. */
 static uint64_t (*const functions[])(void) = {
-    predict,        choose,           forward,          levels,           rebuild,    rebuild_with_dc, luma_dc_levels,
-    luma_dc_values, chroma_dc_levels, chroma_dc_values, chroma_quantizer, code_block, code_plane,      read_head,
-    decode_plane,
+    predict,        choose,           forward,          levels,           rebuild,    rebuild_with_dc,   luma_dc_levels,
+    luma_dc_values, chroma_dc_levels, chroma_dc_values, chroma_quantizer, code_block, promised_distance, code_plane,
+    read_head,      decode_plane,
 };
 
 int main(void) {

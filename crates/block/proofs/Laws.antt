@@ -1,7 +1,7 @@
 -- The laws of one coded block, for neighbours and samples that are bytes: what a record can hold, a decoder accept and a plane take up.
---     residual-small     what the prediction lacks is in -255..255
---     bytes-samples      what is rebuilt of any prediction and any numbers is bytes
---     block-laws         all of `BlockLaws`, over the neighbours, the flags and the samples
+--     residual-small, own-residual-small     what a prediction lacks is in -255..255: any of bytes, and the chosen one
+--     bytes-samples                          what is rebuilt of any prediction and any numbers is bytes
+--     block-laws                             all of `BlockLaws`, over the neighbours, the flags and the samples
 -- Assumes nothing.
 use mathlib.Core.Path.{_≡_, refl, sym, ap, subst}
 use mathlib.Core.Bool.{true}
@@ -33,12 +33,14 @@ use Rattle.residual.proofs.Own.{own-levels-in-range, own-numbers-fit}
 use Rattle.block.specs.Block.{residualOf, modeOf, codedMode, predictionOf, codedLevels, codedSamples}
 use Rattle.block.proofs.Carried.{length-samples}
 
-pub residual-small : (n : List ℕ) (f : ℕ) (s : List ℕ) → Bytes n → Bytes s → Each 255 (residualOf s (predictionOf (mask n f) s))
+pub residual-small : (samples prediction : List ℕ) → Bytes samples → Bytes prediction → Each 255 (residualOf samples prediction)
 unfolding residualOf
-residual-small n f s near own =
-    let p = predictionOf (mask n f) s in
-    let b = best-bytes n f near (chosen (mask n f) s) in
-    each-tab 255 16 _ (λ place l. bytes-differ (getD s place 0) (getD p place 0) (own .byte place) (b .byte place))
+residual-small samples prediction own near =
+    each-tab 255 16 _ (λ place l. bytes-differ (getD samples place 0) (getD prediction place 0) (own .byte place) (near .byte place))
+
+-- of the chosen prediction
+pub own-residual-small : (n : List ℕ) (f : ℕ) (s : List ℕ) → Bytes n → Bytes s → Each 255 (residualOf s (predictionOf (mask n f) s))
+own-residual-small n f s near own = residual-small s (predictionOf (mask n f) s) own (best-bytes n f near (chosen (mask n f) s))
 
 -- "clipped to 0..255"
 clip-byte : (z : ℤ) → clip 255 z < 256
@@ -64,7 +66,7 @@ pub record BlockLaws (qp : ℕ) (n : List ℕ) (f : ℕ) (s : List ℕ) : Type 0
 pub block-laws : (qp : ℕ) (n : List ℕ) (f : ℕ) (s : List ℕ) → qp ≤ highest → length n ≡ 13 → Bytes n → Bytes s → BlockLaws qp n f s
 block-laws qp n f s legal long near own =
     let x = residualOf s (predictionOf (mask n f) s) in
-    let small = residual-small n f s near own in
+    let small = own-residual-small n f s near own in
     let levels = codedLevels qp (mask n f) s in
     let c = chosen-mode n f s long in
     let e : predictionOf (mask n f) s ≡ rules.samplesOf (rules.predicted (mask n f) (codedMode (mask n f) s)) =

@@ -26,7 +26,7 @@ use Rattle.residual.specs.Rebuild.{samplesOf, numbersOf}
 use Rattle.residual.proofs.Own.{own-levels-pass}
 use Rattle.block.specs.Entry.{Codes, codeTests}
 use Rattle.block.specs.declared.Coded.{Coded}
-use Rattle.block.proofs.Laws.{residual-small}
+use Rattle.block.proofs.Laws.{own-residual-small}
 use Rattle.block.proofs.Outcome.{same-coded}
 use Rattle.block.specs.Block.{residualOf, predictionOf, codedLevels, codedSamples}
 use Rattle.block.specs.declared.Coded.the-variants.{Mode}
@@ -54,5 +54,5 @@ rebuilds qp f n s l o m sad l′ o′ p near own out room =
     let is-l : l′ ≡ codedLevels qp (mask n f) s = p .levels ∙ rw v in
     let is-o : o′ ≡ codedSamples qp (mask n f) s = p .rebuilt ∙ rw v in
     let e : chain (rebuildTests qp (rules.samplesOf (rules.predicted (mask n f) m)) l′ out) ≡ pass =
-    rw (sym y, is-l) (own-levels-pass qp legal (residualOf s (predictionOf (mask n f) s)) (residual-small n f s near own) (predictionOf (mask n f) s) out (chosen-sixteen n f s few) room) in
+    rw (sym y, is-l) (own-levels-pass qp legal (residualOf s (predictionOf (mask n f) s)) (own-residual-small n f s near own) (predictionOf (mask n f) s) out (chosen-sixteen n f s few) room) in
     record { says = says (sym e); wrote = simp e (is-o ∙ (λ i. samplesOf (y i) (numbersOf qp (sym is-l i)))) }

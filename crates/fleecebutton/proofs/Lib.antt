@@ -1,3 +1,4 @@
+pub mod Distance
 pub mod OwnDc
 pub mod Told
 pub mod Unique

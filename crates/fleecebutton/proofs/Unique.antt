@@ -30,6 +30,8 @@ use Rattle.fleecebutton.proofs.fb_chroma_quantizer.Kinds as fb-chroma-q
 use Rattle.fleecebutton.proofs.fb_chroma_quantizer.Reads as fb-chroma-quantizer-reads
 use Rattle.fleecebutton.proofs.fb_code_block.Kinds as fb-code-block
 use Rattle.fleecebutton.proofs.fb_code_block.Reads as fb-code-block-reads
+use Rattle.fleecebutton.proofs.fb_promised_distance.Kinds as fb-promised-distance
+use Rattle.fleecebutton.proofs.fb_promised_distance.Reads as fb-promised-distance-reads
 use Rattle.fleecebutton.proofs.fb_code_plane.Kinds as fb-code-plane
 use Rattle.fleecebutton.proofs.fb_code_plane.Reads as fb-code-plane-reads
 use Rattle.fleecebutton.proofs.fb_read_head.Kinds as fb-read-head
@@ -76,6 +78,9 @@ fb-code-block-unique κs a x y e f p q =
     let l = p .levels ∙ sym (q .levels) in
     let o = p .rebuilt ∙ sym (q .rebuilt) in
     (p .word ∙ sym (q .word), λ i. (l i, o i))
+
+pub fb-promised-distance-unique : Unique 0 fb-promised-distance.ps fb-promised-distance.r fb-promised-distance-reads.Learnt (Unit {0}) (λ κs e. tt)
+fb-promised-distance-unique κs a x y e f p q = (p ∙ sym q, refl)
 
 -- both outputs at exit
 pub fb-code-plane-unique : Unique 3 fb-code-plane.ps fb-code-plane.r fb-code-plane-reads.Learnt (List ℕ × List ℕ) (λ κs e. (now (e .1 .1 .1 .1 .0), now (e .1 .1 .1 .1 .1 .0)))

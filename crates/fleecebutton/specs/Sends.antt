@@ -18,8 +18,10 @@ use Rattle.residual.specs.Rebuild.{samplesOf, numbersOf, numbersWithDc}
 use Rattle.dc.specs.Dc.{lumaLevels, lumaValues, chromaLevels, chromaValues}
 use Rattle.dc.specs.Entry.{lumaLevelsTests, lumaValuesTests, chromaLevelsTests, chromaValuesTests}
 use Rattle.quantizer.specs.Chroma.{chromaTests, chromaOf}
+use Rattle.quantizer.specs.Range as quantizer
 use Rattle.block.specs.Block.{codedLevels, codedSamples}
 use Rattle.block.specs.Entry.{codeTests}
+use Rattle.distance.specs.Entry.{samplesOff}
 use Rattle.record.specs.Entry.{headTests, widthAt, heightAt}
 use Rattle.plane.specs.Content.{layoutOf}
 use Rattle.plane.specs.Code.{codePlaneTests, codedFile, codedPlane, over}
@@ -69,6 +71,9 @@ pub record CodeBlockSends (qp flags : ℕ) (neighbours samples : List ℕ) (l : 
   pub word : w ≡ wordOf (chain (codeTests qp flags neighbours samples l o)) (choiceValue (chosen (mask neighbours flags) samples))
   pub levels : l′ ≡ written (chain (codeTests qp flags neighbours samples l o)) (codedLevels qp (mask neighbours flags) samples) l
   pub rebuilt : o′ ≡ written (chain (codeTests qp flags neighbours samples l o)) (codedSamples qp (mask neighbours flags) samples) o
+
+abbrev pub PromisedDistanceSends : (qp w : ℕ) → Type 0
+PromisedDistanceSends qp w = w ≡ wordOf (chain (quantizer.tests qp)) (samplesOff qp)
 
 -- two outputs: the file area and the rebuilt plane, file and rebuilt at entry, file′ and rebuilt′ at exit; the value is the bytes used
 pub record CodePlaneSends (width height qp : ℕ) (plane file rebuilt : List ℕ) (w : ℕ) (file′ rebuilt′ : List ℕ) : Type 0 where

@@ -12,6 +12,7 @@ ghost use Rattle.fleecebutton.specs.Sends.{
   ChromaDcValuesSends,
   ChromaQuantizerSends,
   CodeBlockSends,
+  PromisedDistanceSends,
   CodePlaneSends,
   ReadHeadSends,
   DecodePlaneSends,
@@ -131,6 +132,14 @@ pub extern "C" fn fb_code_block(
     ensures { λ r. ⌜ CodeBlockSends qp flags (now (neighbours .entry)) (now (samples .entry)) (now (levels .entry)) (now (rebuilt .entry)) r (now (levels .exit)) (now (rebuilt .exit)) ⌝ }
 {
     word::of_coded(block::code_block(qp, flags, neighbours, samples, levels, rebuilt))
+}
+
+// No rebuilt sample of `fb_code_block` is farther off its original than the word's value.
+#[no_mangle]
+pub extern "C" fn fb_promised_distance(qp: u8) -> u64
+    ensures { λ r. ⌜ PromisedDistanceSends qp r ⌝ }
+{
+    word::of_promised(distance::promised_distance(qp))
 }
 
 // The record file of a plane, and the plane that a decoder rebuilds from it; the bytes used are the word's value.

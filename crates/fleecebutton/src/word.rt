@@ -6,10 +6,12 @@ ghost use Rattle.refusal.specs.Number.{said};
 ghost use Rattle.predict.specs.Entry.{saidChosen, bestIn};
 ghost use Rattle.block.specs.Entry.{saidCoded, bestCoded};
 ghost use Rattle.quantizer.specs.Range.{said as saidBuilt, qpOf};
+ghost use Rattle.distance.specs.Entry.{said as saidPromised, valueOf};
 ghost use Rattle.record.specs.Entry.{said as saidHead, widthOf, heightOf};
 ghost use Rattle.plane.specs.Code.{saidPlane, bytesUsed};
 ghost use Rattle.fleecebutton.specs.Word.{places, wordOf, choiceValue, sizeValue};
 use block::Coded;
+use distance::Promised;
 use plane::CodedPlane;
 use predict::Chosen;
 use quantizer::Built;
@@ -74,6 +76,15 @@ pub(crate) fn of_quantizer(built: Built) -> u64
     match built {
         Built::Legal(quantizer) => of_success(quantizer.number() as u64),
         Built::Refused(refusal) => of_refusal(refusal),
+    }
+}
+
+pub(crate) fn of_promised(promised: Promised) -> u64
+    ensures { λ r. ⌜ r ≡ wordOf (saidPromised promised) (valueOf promised) ⌝ }
+{
+    match promised {
+        Promised::Most(samples) => of_success(samples as u64),
+        Promised::Refused(refusal) => of_refusal(refusal),
     }
 }
 

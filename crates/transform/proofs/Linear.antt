@@ -1,4 +1,5 @@
--- `hadamard` is linear, over the size n, so what is near stays near.
+-- Products on both sides are linear in what stands between, over the size n, so what is near stays near behind H.
+--     between-linear      if Z is a X + b Y at each place, so it is between A and B
 --     hadamard-at         the number at a place
 --     hadamard-linear     if z is a x + b y at each place, so it is behind H
 --     hadamard-near       a z within B of b x at each place: behind H, within n n B
@@ -25,6 +26,16 @@ use Rattle.transform.proofs.Bounds.{units, hadamard-each}
 use Rattle.transform.proofs.Carried.{twice-through}
 use Rattle.transform.proofs.Products.{Undoes, scaled-at}
 
+pub between-linear : (n : ℕ) (A B X Y Z : Matrix) (a b : ℤ) → ((k l : ℕ) → k < n → l < n → Z k l ≡ a *ℤ X k l +ℤ b *ℤ Y k l)
+    → (i j : ℕ) → product n A (product n Z B) i j ≡ a *ℤ product n A (product n X B) i j +ℤ b *ℤ product n A (product n Y B) i j
+between-linear n A B X Y Z a b e i j =
+    sum-linear n a b _ _ _ (λ k h.
+    ap (λ (t : ℤ). A i k *ℤ t)
+    (sum-linear n a b _ _ _ (λ l m.
+    ap (λ (t : ℤ). t *ℤ B l j) (e k l h m)
+    ∙ ring (a ∷ b ∷ X k l ∷ Y k l ∷ B l j ∷ []) ((var 0 ⊗ var 2 ⊕ var 1 ⊗ var 3) ⊗ var 4) (var 0 ⊗ (var 2 ⊗ var 4) ⊕ var 1 ⊗ (var 3 ⊗ var 4)) refl))
+    ∙ ring (a ∷ b ∷ product n X B k j ∷ product n Y B k j ∷ A i k ∷ []) (var 4 ⊗ (var 0 ⊗ var 2 ⊕ var 1 ⊗ var 3)) (var 0 ⊗ (var 4 ⊗ var 2) ⊕ var 1 ⊗ (var 4 ⊗ var 3)) refl)
+
 module _ (n : ℕ) (H : Matrix) where
   -- the number in a row and a column below n stands below n n
   place-below : (i j : ℕ) → i < n → j < n → n * i + j < n * n
@@ -34,24 +45,12 @@ module _ (n : ℕ) (H : Matrix) where
   unfolding hadamard
   hadamard-at w k h = getD-tab (n * n) _ k (pos 0) h
 
-  module _ (a b : ℤ) (x y z : List ℤ) (e : (k : ℕ) → k < n * n → getD z k (pos 0) ≡ a *ℤ getD x k (pos 0) +ℤ b *ℤ getD y k (pos 0)) where
-    -- one side
-    side : (i j : ℕ) → i < n → product n (raster n z) H i j ≡ a *ℤ product n (raster n x) H i j +ℤ b *ℤ product n (raster n y) H i j
-    side i j h =
-        sum-linear n a b _ _ _ (λ k l.
-        ap (λ (t : ℤ). t *ℤ H k j) (e (n * i + k) (place-below i k h l))
-        ∙ ring (a ∷ b ∷ raster n x i k ∷ raster n y i k ∷ H k j ∷ []) ((var 0 ⊗ var 2 ⊕ var 1 ⊗ var 3) ⊗ var 4) (var 0 ⊗ (var 2 ⊗ var 4) ⊕ var 1 ⊗ (var 3 ⊗ var 4)) refl)
-
-    -- both sides
-    pub hadamard-linear : (k : ℕ) → k < n * n → getD (hadamard n H z) k (pos 0) ≡ a *ℤ getD (hadamard n H x) k (pos 0) +ℤ b *ℤ getD (hadamard n H y) k (pos 0)
-    hadamard-linear k h =
-        let i = k / n in
-        let j = k % n in
-        hadamard-at z k h
-        ∙ sum-linear n a b _ _ _ (λ m l.
-        ap (λ (t : ℤ). H i m *ℤ t) (side m j l)
-        ∙ ring (a ∷ b ∷ product n (raster n x) H m j ∷ product n (raster n y) H m j ∷ H i m ∷ []) (var 4 ⊗ (var 0 ⊗ var 2 ⊕ var 1 ⊗ var 3)) (var 0 ⊗ (var 4 ⊗ var 2) ⊕ var 1 ⊗ (var 4 ⊗ var 3)) refl)
-        ∙ (λ t. a *ℤ sym (hadamard-at x k h) t +ℤ b *ℤ sym (hadamard-at y k h) t)
+  pub hadamard-linear : (a b : ℤ) (x y z : List ℤ) → ((k : ℕ) → k < n * n → getD z k (pos 0) ≡ a *ℤ getD x k (pos 0) +ℤ b *ℤ getD y k (pos 0))
+      → (k : ℕ) → k < n * n → getD (hadamard n H z) k (pos 0) ≡ a *ℤ getD (hadamard n H x) k (pos 0) +ℤ b *ℤ getD (hadamard n H y) k (pos 0)
+  hadamard-linear a b x y z e k h =
+      hadamard-at z k h
+      ∙ between-linear n H H (raster n x) (raster n y) (raster n z) a b (λ i j l m. e (n * i + j) (place-below i j l m)) (k / n) (k % n)
+      ∙ (λ t. a *ℤ sym (hadamard-at x k h) t +ℤ b *ℤ sym (hadamard-at y k h) t)
 
   -- ---- what is near stays near; the test of H is `tt`
 

@@ -3,7 +3,7 @@
 --     lt-ltZ, le-ltZ, le-leZ, lt-leZ                                the test's value from the fact
 --     plain-lt, plain-gt, plain-le, le-both, lt-both                a test of numbers that are read back from their bits
 --     not-low, size-low                                             the absolute value
---     clip-low, clip-high, clip-same, clip-le                       clipping
+--     clip-low, clip-high, clip-same, clip-le, clip-nearer          clipping
 -- Assumes nothing.
 use mathlib.Core.Path.{_≡_, refl, sym, subst}
 use mathlib.Core.Bool.{Bool, true, false, not}
@@ -16,7 +16,8 @@ use mir.Syntax.{Width}
 use mir.Val.{toZ, ofZ, SFits}
 use mir.ValLaws.{toZ-ofZ}
 use Rattle.whole.specs.Clip.{clip}
-use Rattle.whole.proofs.Laws.{up, down, le-nat, lt-nat, nat-le, nat-lt}
+use Rattle.whole.proofs.Bound.{abs-up-down, within-by}
+use Rattle.whole.proofs.Laws.{up, down, diff-self, diff-minus, le-nat, lt-nat, nat-le, nat-lt}
 
 -- ---- tests as facts
 
@@ -115,3 +116,15 @@ module _ (high : ℕ) where
   unfolding clip
   clip-le (pos n) = omega arith
   clip-le (negsuc n) = zero-le
+
+  -- it brings no number farther away from one that lies between the ends
+  pub clip-nearer : (z : ℤ) (o : ℕ) → o ≤ high → natAbs (pos (clip high z) -ℤ pos o) ≤ natAbs (z -ℤ pos o)
+  unfolding clip
+  clip-nearer (pos n) o h =
+      let far = abs-up-down (pos n -ℤ pos o) in
+      let is = diff-minus (diff-self (pos n)) (diff-self (pos o)) .eq in
+      within-by (natAbs (pos n -ℤ pos o)) (diff-minus (diff-self (pos (clip high (pos n)))) (diff-self (pos o))) (omega arith) (omega arith) .size
+  clip-nearer (negsuc n) o h =
+      let far = abs-up-down (negsuc n -ℤ pos o) in
+      let is = diff-minus (diff-self (negsuc n)) (diff-self (pos o)) .eq in
+      within-by (natAbs (negsuc n -ℤ pos o)) (diff-minus (diff-self (pos 0)) (diff-self (pos o))) (omega arith) (omega arith) .size

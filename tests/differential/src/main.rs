@@ -1,9 +1,10 @@
-//! Compares every exported function of the proved library with the reference on many inputs. The library runs in a process of
-//! its own, `tests/peer`, since it is x86-64 code and this program runs on any processor.
+//! Compares every exported function of the proved library with the reference on many inputs, and measures how far rebuilt samples
+//! are off. The library runs in a process of its own, `tests/peer`, since it is x86-64 code and this program runs on any processor.
 //!
 //! differential COMMAND..: the command runs the peer.
 
 mod blocks;
+mod distances;
 mod files;
 mod functions;
 mod peer;
@@ -23,9 +24,9 @@ fn main() -> ExitCode {
         return ExitCode::from(2);
     }
     let started = Instant::now();
-    for (number, function) in functions::ALL.iter().enumerate() {
-        let outcome = peer::compare(&command, number as u32, function)
-            .and_then(|seen| all_seen(function, &seen));
+    for function in &functions::ALL {
+        let outcome =
+            peer::compare(&command, function, |_, _| {}).and_then(|seen| all_seen(function, &seen));
         match outcome {
             Ok(line) => println!("{}: {line}", function.name),
             Err(difference) => {
@@ -34,8 +35,15 @@ fn main() -> ExitCode {
             }
         }
     }
+    match distances::table(&command) {
+        Ok(table) => print!("{table}"),
+        Err(fault) => {
+            println!("distances: {fault}");
+            return ExitCode::FAILURE;
+        }
+    }
     println!(
-        "differential: {} functions agree with the reference, {:.0} s",
+        "differential: {} functions agree with the reference, and no distance is above its promise, {:.0} s",
         functions::ALL.len(),
         started.elapsed().as_secs_f64()
     );

@@ -1,6 +1,6 @@
 //! Calls of the library through the peer, side by side with the reference.
 
-use crate::functions::Function;
+use crate::functions::{number, Function};
 use crate::random::Random;
 use crate::request::{encoded, word, Argument};
 use std::collections::BTreeMap;
@@ -8,11 +8,11 @@ use std::io::{self, BufReader, BufWriter, Read, Write};
 use std::process::{Child, Command, Stdio};
 use std::thread;
 
-/// How often each outcome came, or the first difference.
+/// How often each outcome came, or the first difference. `watch` sees the word and the arguments at exit of each call.
 pub fn compare(
     command: &[String],
-    number: u32,
     function: &Function,
+    watch: impl FnMut(u64, &[Argument]),
 ) -> Result<BTreeMap<u8, usize>, String> {
     let mut peer = Command::new(&command[0])
         .args(&command[1..])
@@ -24,8 +24,8 @@ pub fn compare(
     let answers = peer.stdout.take().expect("it is piped");
     // Both sides make the same inputs from the same seed, so that nothing is kept and neither waits for the other.
     thread::scope(|scope| {
-        scope.spawn(move || write_requests(number, function, requests));
-        let seen = check_answers(function, answers);
+        scope.spawn(move || write_requests(function, requests));
+        let seen = check_answers(function, answers, watch);
         ended(&mut peer, seen)
     })
 }
@@ -36,7 +36,8 @@ fn inputs(function: &Function) -> impl Iterator<Item = Vec<Argument>> + '_ {
 }
 
 /// A peer that died shows in the answers, so that an error here is no more than the end.
-fn write_requests(number: u32, function: &Function, requests: impl Write) -> io::Result<()> {
+fn write_requests(function: &Function, requests: impl Write) -> io::Result<()> {
+    let number = number(function.name);
     let mut requests = BufWriter::with_capacity(1 << 20, requests);
     for arguments in inputs(function) {
         let bytes = encoded(&arguments);
@@ -47,7 +48,11 @@ fn write_requests(number: u32, function: &Function, requests: impl Write) -> io:
     requests.flush()
 }
 
-fn check_answers(function: &Function, answers: impl Read) -> Result<BTreeMap<u8, usize>, String> {
+fn check_answers(
+    function: &Function,
+    answers: impl Read,
+    mut watch: impl FnMut(u64, &[Argument]),
+) -> Result<BTreeMap<u8, usize>, String> {
     let mut answers = BufReader::with_capacity(1 << 20, answers);
     let mut seen = BTreeMap::new();
     for (case, lent) in inputs(function).enumerate() {
@@ -65,6 +70,7 @@ fn check_answers(function: &Function, answers: impl Read) -> Result<BTreeMap<u8,
             return Err(difference(case, &lent, (expected, &left), (answer, &bytes)));
         }
         *seen.entry(expected as u8).or_insert(0) += 1;
+        watch(answer, &arguments);
     }
     Ok(seen)
 }

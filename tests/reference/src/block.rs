@@ -32,11 +32,16 @@ pub fn rebuild(qp: u8, prediction: &[u8], levels: &[i32], out: &mut [u8]) -> Res
     let prediction = lent::<_, 16>(prediction)?;
     let levels = lent::<_, 16>(levels)?;
     let out = lent_mut::<_, 16>(out)?;
+    *out = clipped(unclipped(qp, prediction, levels)?);
+    Ok(())
+}
+
+/// What `rebuild` clips. Refusals: QUANTIZER, LEVEL, RANGE.
+pub fn unclipped(qp: u8, prediction: &[u8; 16], levels: &[i32; 16]) -> Result<[i32; 16], Refusal> {
     let quantizer = Quantizer::new(qp)?;
     let levels = in_16_bits(levels, Refusal::level)?;
     let rescaled = in_16_bits(&rescaled(quantizer, &levels), Refusal::range)?;
-    *out = rebuilt(prediction, &rescaled);
-    Ok(())
+    Ok(added(prediction, &rescaled))
 }
 
 /// The samples made of a prediction, a DC value that is already rescaled, and
@@ -60,7 +65,7 @@ pub fn rebuild_with_dc(
     let mut rescaled = rescaled(quantizer, &levels);
     rescaled[0] = i64::from(dc);
     let rescaled = in_16_bits(&rescaled, Refusal::range)?;
-    *out = rebuilt(prediction, &rescaled);
+    *out = clipped(added(prediction, &rescaled));
     Ok(())
 }
 
@@ -109,11 +114,13 @@ fn rescaled(quantizer: Quantizer, levels: &[i16; 16]) -> [i64; 16] {
 
 /// Inverse transform of rescaled values in zigzag order, added to the
 /// prediction.
-fn rebuilt(prediction: &[u8; 16], rescaled: &[i16; 16]) -> [u8; 16] {
+fn added(prediction: &[u8; 16], rescaled: &[i16; 16]) -> [i32; 16] {
     let residual = transform::inverse(&from_zigzag(rescaled));
-    std::array::from_fn(|place| {
-        (i32::from(prediction[place]) + residual[place]).clamp(0, 255) as u8
-    })
+    std::array::from_fn(|place| i32::from(prediction[place]) + residual[place])
+}
+
+fn clipped(samples: [i32; 16]) -> [u8; 16] {
+    samples.map(|sample| sample.clamp(0, 255) as u8)
 }
 
 #[cfg(test)]

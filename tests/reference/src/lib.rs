@@ -1,4 +1,4 @@
-//! An independent, plain Rust implementation of Fleecebutton, written from document 01 and from ITU-T H.264 (clauses 8.3.1
+//! An independent, plain Rust implementation of Fleecebutton, written from documents 01 and 02 and from ITU-T H.264 (clauses 8.3.1
 //! and 8.5), and not from the Rattle code it is compared with.
 //!
 //! Every entry point takes any value of its argument types. It runs its tests
@@ -15,9 +15,9 @@ pub mod record;
 mod refusal;
 mod transform;
 
-pub use block::{code_block, forward, levels, rebuild, rebuild_with_dc};
+pub use block::{code_block, forward, levels, rebuild, rebuild_with_dc, unclipped};
 pub use dc::{chroma_dc_levels, chroma_dc_values, luma_dc_levels, luma_dc_values};
 pub use plane::{code_plane, decode_plane};
 pub use predict::{choose, predict, Choice, Mode};
-pub use quantizer::{chroma_quantizer, Quantizer};
+pub use quantizer::{chroma_quantizer, promised_distance, Quantizer};
 pub use refusal::Refusal;

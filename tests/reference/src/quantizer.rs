@@ -61,6 +61,11 @@ impl Quantizer {
         })
     }
 
+    /// What a level of class a, b, c is rescaled by: V times 2^p.
+    pub fn scales(self) -> [i64; 3] {
+        V[self.remainder].map(|v| v << self.period)
+    }
+
     /// The level of a coefficient. A Hadamard transform in front has made the
     /// coefficient larger by `halvings` powers of two, which are taken out
     /// again here: none for an ordinary block, 1 for chroma DC, 2 for luma DC.
@@ -77,7 +82,7 @@ impl Quantizer {
 
     /// The rescaled value of an ordinary level.
     pub(crate) fn rescale(self, level: i16, class: Class) -> i64 {
-        (i64::from(level) * V[self.remainder][class as usize]) << self.period
+        i64::from(level) * self.scales()[class as usize]
     }
 
     /// The rescaled luma DC value; `g` is a level after the Hadamard transform.
@@ -115,6 +120,13 @@ pub fn chroma_quantizer(qp: u8, offset: i32) -> Result<u8, Refusal> {
         0..=29 => index,
         _ => FROM_30[usize::from(index) - 30],
     })
+}
+
+/// So many whole samples, at the most, is a rebuilt sample of a 4x4 block
+/// without a DC path off (document 02, request 07). Refusals: QUANTIZER.
+pub fn promised_distance(qp: u8) -> Result<u64, Refusal> {
+    let [a, b, c] = Quantizer::new(qp)?.scales();
+    Ok(((16 * a + 24 * c + 9 * b + 384) / 384) as u64)
 }
 
 #[cfg(test)]
