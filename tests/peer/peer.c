@@ -1,8 +1,8 @@
 /* The proved library behind a pipe, so that a test on any processor can call it: the library is x86-64 code.
  *
  * A request on standard input is a head (function, and the size of what follows, 32 bits each) and arguments; everything starts
- * at a multiple of 8 bytes, low byte first. A number has 8 bytes. A slice is its number of elements in 8 bytes, then the
- * elements, then bytes up to the next multiple of 8.
+ * at a multiple of 8 bytes, low byte first. A number has 8 bytes, and so has a double. A slice is its number of elements in
+ * 8 bytes, then the elements, then bytes up to the next multiple of 8.
  *
  * The answer on standard output is the word in 8 bytes, then the arguments as the call left them, all of them: so the caller
  * sees what became of outputs, of inputs and of what stands between the slices. */
@@ -85,6 +85,11 @@ struct numbers {
     size_t length;
 };
 
+struct doubles {
+    double *at;
+    size_t length;
+};
+
 static int64_t number(void) { return (int64_t)arguments[next++]; }
 
 static struct bytes bytes(void) {
@@ -98,6 +103,13 @@ static struct numbers numbers(void) {
     size_t length = (size_t)number();
     struct numbers slice = {(int32_t *)(arguments + next), length};
     next += (4 * length + 7) / 8;
+    return slice;
+}
+
+static struct doubles doubles(void) {
+    size_t length = (size_t)number();
+    struct doubles slice = {(double *)(arguments + next), length};
+    next += length;
     return slice;
 }
 
@@ -220,11 +232,22 @@ static uint64_t decode_plane(void) {
     return fb_decode_plane(file.at, file.length, plane.at, plane.length);
 }
 
+static uint64_t quality_sheet(void) {
+    size_t width = (size_t)number();
+    size_t height = (size_t)number();
+    struct bytes original = bytes();
+    struct bytes rebuilt = bytes();
+    struct bytes map = bytes();
+    struct doubles out = doubles();
+    return fb_quality_sheet(width, height, original.at, original.length, rebuilt.at, rebuilt.length, map.at, map.length,
+                            out.at, out.length);
+}
+
 /* The number of a function in a request is its place here; tests/differential has the same order. */
 static uint64_t (*const functions[])(void) = {
     predict,        choose,           forward,          levels,           rebuild,    rebuild_with_dc,   luma_dc_levels,
     luma_dc_values, chroma_dc_levels, chroma_dc_values, chroma_quantizer, code_block, promised_distance, code_plane,
-    read_head,      decode_plane,
+    read_head,      decode_plane,     quality_sheet,
 };
 
 int main(void) {

@@ -4,6 +4,7 @@ use mathlib.Core.Path.{refl, sym, _∙_}
 use mathlib.Core.List.{List}
 use Prim.Native.Nat.{ℕ}
 use denote.Ref.{now}
+use lib.Ieee.{Float}
 use lib.IntN.{ℤ}
 use Rattle.unique.specs.Unique.{Unique}
 use Rattle.fleecebutton.proofs.fb_predict.Kinds as fb-predict
@@ -38,6 +39,8 @@ use Rattle.fleecebutton.proofs.fb_read_head.Kinds as fb-read-head
 use Rattle.fleecebutton.proofs.fb_read_head.Reads as fb-read-head-reads
 use Rattle.fleecebutton.proofs.fb_decode_plane.Kinds as fb-decode-plane
 use Rattle.fleecebutton.proofs.fb_decode_plane.Reads as fb-decode-plane-reads
+use Rattle.fleecebutton.proofs.fb_quality_sheet.Kinds as fb-quality-sheet
+use Rattle.fleecebutton.proofs.fb_quality_sheet.Reads as fb-quality-sheet-reads
 
 pub fb-predict-unique : Unique 2 fb-predict.ps fb-predict.r fb-predict-reads.Learnt (List ℕ) (λ κs e. now (e .1 .1 .1 .0))
 fb-predict-unique κs a x y e f p q = (p .word ∙ sym (q .word), p .wrote ∙ sym (q .wrote))
@@ -94,3 +97,6 @@ fb-read-head-unique κs a x y e f p q = (p ∙ sym q, refl)
 
 pub fb-decode-plane-unique : Unique 2 fb-decode-plane.ps fb-decode-plane.r fb-decode-plane-reads.Learnt (List ℕ) (λ κs e. now (e .1 .0))
 fb-decode-plane-unique κs a x y e f p q = (p .word ∙ sym (q .word), p .wrote ∙ sym (q .wrote))
+
+pub fb-quality-sheet-unique : Unique 4 fb-quality-sheet.ps fb-quality-sheet.r fb-quality-sheet-reads.Learnt (List Float) (λ κs e. now (e .1 .1 .1 .1 .1 .0))
+fb-quality-sheet-unique κs a x y e f p q = (p .word ∙ sym (q .word), p .wrote ∙ sym (q .wrote))

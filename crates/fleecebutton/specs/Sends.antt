@@ -3,6 +3,7 @@
 use mathlib.Core.Path.{_≡_}
 use mathlib.Core.List.{List}
 use Prim.Native.Nat.{ℕ}
+use lib.Ieee.{Float}
 use lib.IntN.{ℤ}
 use lib.ListN.{length}
 use Rattle.lists.specs.Chain.{chain, written}
@@ -23,10 +24,12 @@ use Rattle.block.specs.Block.{codedLevels, codedSamples}
 use Rattle.block.specs.Entry.{codeTests}
 use Rattle.distance.specs.Entry.{samplesOff}
 use Rattle.record.specs.Entry.{headTests, widthAt, heightAt}
-use Rattle.plane.specs.Content.{layoutOf}
+use Rattle.picture.specs.Plane.{layoutOf}
 use Rattle.plane.specs.Code.{codePlaneTests, codedFile, codedPlane, over}
 use Rattle.plane.specs.Decode.{decodeTests, layoutIn, decoded}
-use Rattle.fleecebutton.specs.Word.{wordOf, choiceValue, sizeValue, Sends}
+use Rattle.sheet.specs.Entry.{writeTests}
+use Rattle.sheet.specs.Means.{givenOf, areaOf}
+use Rattle.fleecebutton.specs.Word.{wordOf, choiceValue, sizeValue, sheetValue, Sends}
 
 abbrev pub PredictSends : (neighbours : List ℕ) (flags mode : ℕ) (before : List ℕ) (w : ℕ) (after : List ℕ) → Type 0
 PredictSends neighbours flags mode before w after =
@@ -86,3 +89,8 @@ ReadHeadSends file w = w ≡ wordOf (chain (headTests file)) (sizeValue (widthAt
 
 abbrev pub DecodePlaneSends : (file before : List ℕ) (w : ℕ) (after : List ℕ) → Type 0
 DecodePlaneSends file before w after = Sends (decodeTests file before) 0 (decoded (layoutIn file) file) before w after
+
+abbrev pub QualitySheetSends : (width height : ℕ) (original rebuilt map : List ℕ) (before : List Float) (w : ℕ) (after : List Float) → Type 0
+QualitySheetSends width height original rebuilt map before w after =
+    let given = givenOf (layoutOf width height) original rebuilt map in
+    Sends (writeTests width height original rebuilt map before) (sheetValue given) (areaOf given before) before w after

@@ -16,6 +16,7 @@ ghost use Rattle.fleecebutton.specs.Sends.{
   CodePlaneSends,
   ReadHeadSends,
   DecodePlaneSends,
+  QualitySheetSends,
 };
 
 mod word;
@@ -171,4 +172,20 @@ pub extern "C" fn fb_decode_plane(file: &[u8], plane: &mut [u8]) -> u64
     ensures { λ r. ⌜ DecodePlaneSends (now (file .entry)) (now (plane .entry)) r (now (plane .exit)) ⌝ }
 {
     word::of_answer(plane::decode_plane(file, plane))
+}
+
+// The sheet of an original plane, a rebuilt plane and a map of macroblocks present: three means, in the area. The word's value is 1 where there
+// is a sheet, and 0 where nothing is present.
+#[no_mangle]
+pub extern "C" fn fb_quality_sheet(
+    width: usize,
+    height: usize,
+    original: &[u8],
+    rebuilt: &[u8],
+    map: &[u8],
+    out: &mut [f64],
+) -> u64
+    ensures { λ r. ⌜ QualitySheetSends width height (now (original .entry)) (now (rebuilt .entry)) (now (map .entry)) (now (out .entry)) r (now (out .exit)) ⌝ }
+{
+    word::of_sheeted(sheet::inner::write_sheet(width, height, original, rebuilt, map, out))
 }

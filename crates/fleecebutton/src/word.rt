@@ -9,7 +9,8 @@ ghost use Rattle.quantizer.specs.Range.{said as saidBuilt, qpOf};
 ghost use Rattle.distance.specs.Entry.{said as saidPromised, valueOf};
 ghost use Rattle.record.specs.Entry.{said as saidHead, widthOf, heightOf};
 ghost use Rattle.plane.specs.Code.{saidPlane, bytesUsed};
-ghost use Rattle.fleecebutton.specs.Word.{places, wordOf, choiceValue, sizeValue};
+ghost use Rattle.sheet.specs.Entry.{said as saidSheeted, givenIn};
+ghost use Rattle.fleecebutton.specs.Word.{places, wordOf, choiceValue, sizeValue, sheetValue};
 use block::Coded;
 use distance::Promised;
 use plane::CodedPlane;
@@ -18,6 +19,7 @@ use quantizer::Built;
 use record::Head;
 use refusal::Answer;
 use refusal::Refusal;
+use sheet::Sheeted;
 
 // How many places a word can tell: 2^56, since its low byte is the number's.
 const PLACES: usize = 72057594037927936;
@@ -105,5 +107,15 @@ pub(crate) fn of_plane(coded: CodedPlane) -> u64
     match coded {
         CodedPlane::Bytes(used) => of_success(used as u64),
         CodedPlane::Refused(refusal) => of_refusal(refusal),
+    }
+}
+
+pub(crate) fn of_sheeted(sheeted: Sheeted) -> u64
+    ensures { λ r. ⌜ r ≡ wordOf (saidSheeted sheeted) (sheetValue (givenIn sheeted)) ⌝ }
+{
+    match sheeted {
+        Sheeted::Sheet(_) => of_success(1),
+        Sheeted::Nothing => of_success(0),
+        Sheeted::Refused(refusal) => of_refusal(refusal),
     }
 }

@@ -1,8 +1,11 @@
 -- The loop that adds f k in turn k, each at most b, so that the sum is known to fit.
 --     Totalling: totalling-none, totalling-more, totalling-done
+--     total-low, term-low     a sum of terms that are at most b; each term is at most the sum
 -- Assumes nothing.
 use mathlib.Core.Path.{_≡_, refl, _∙_}
-use Prim.Native.Nat.{ℕ, _+_, _*_, _<_, _≤_, zero-le}
+use mathlib.Core.Logic.{⊎-elim}
+use Prim.Native.Nat.{ℕ, zero, suc, _+_, _*_, _<_, _≤_, zero-le}
+use native.Mathlib.Nat.{not-suc-le-zero, eq-or-lt-of-le, le-of-suc-le-suc}
 use native.Mathlib.Numerals.{add-one}
 use native.Mathlib.Omega.{arith}
 use Rattle.lists.specs.Total.{total}
@@ -27,3 +30,14 @@ module _ (n : ℕ) (f : ℕ → ℕ) (b : ℕ) where
 
   pub totalling-done : {sum k : ℕ} → Totalling n f b sum k → n ≤ k → sum ≡ total n f
   totalling-done {sum} {k} h l = let q : k ≡ n = omega (arith, h .below) in h .is ∙ rw q
+
+pub total-low : (n : ℕ) (f : ℕ → ℕ) (b : ℕ) → ((k : ℕ) → k < n → f k ≤ b) → total n f ≤ b * n
+unfolding total
+total-low zero f b h = zero-le
+total-low (suc n) f b h = omega (arith, total-low n f b (λ k l. h k (omega arith)), h n (omega arith))
+
+pub term-low : (n : ℕ) (f : ℕ → ℕ) (k : ℕ) → k < n → f k ≤ total n f
+unfolding total
+term-low zero f k l = absurd (not-suc-le-zero l)
+term-low (suc n) f k l =
+    ⊎-elim (λ (e : k ≡ n). rw e (omega arith)) (λ (h : k < n). omega (arith, term-low n f k h)) (eq-or-lt-of-le (le-of-suc-le-suc l))

@@ -11,6 +11,8 @@ use Rattle.picture.proofs.inner.row.Kinds as row
 use Rattle.picture.proofs.inner.row.Reads as row-reads
 use Rattle.picture.proofs.inner.flags.Kinds as flags
 use Rattle.picture.proofs.inner.flags.Reads as flags-reads
+use Rattle.picture.proofs.inner.first_place.Kinds as first-place
+use Rattle.picture.proofs.inner.first_place.Reads as first-place-reads
 use Rattle.picture.proofs.inner.gather.Kinds as gather
 use Rattle.picture.proofs.inner.gather.Reads as gather-reads
 use Rattle.picture.proofs.inner.read_block.Kinds as read-block
@@ -26,6 +28,9 @@ row-unique κs a x y e f p q = (p ∙ sym q, refl)
 
 pub flags-unique : Unique 0 flags.ps flags.r flags-reads.Learnt (Unit {0}) (λ κs e. tt)
 flags-unique κs a x y e f p q = (p ∙ sym q, refl)
+
+pub first-place-unique : Unique 0 first-place.ps first-place.r first-place-reads.Learnt (Unit {0}) (λ κs e. tt)
+first-place-unique κs a x y e f p q = (p ∙ sym q, refl)
 
 pub gather-unique : Unique 1 gather.ps gather.r gather-reads.Learnt (Unit {0}) (λ κs e. tt)
 gather-unique κs a x y e f p q = (p ∙ sym q, refl)

@@ -11,6 +11,10 @@ use Rattle.picture.specs.declared.Layout.{Layout}
 use Rattle.picture.specs.Order.{blockColumn, blockRow}
 use Rattle.picture.specs.Presence.{neighbourColumn, neighbourRow, presentAt}
 
+-- the picture of a size, as one slice
+abbrev pub layoutOf : (width height : ℕ) → Layout
+layoutOf width height = record { width = width; height = height; rows = height }
+
 -- the samples of a row, and of the plane
 abbrev pub stride : Layout → ℕ
 stride l = 16 * l .width

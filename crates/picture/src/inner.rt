@@ -123,7 +123,7 @@ pub fn flags(layout: Layout, m: usize, b: usize) -> u8
 }
 
 // The place of the block's first sample in the plane.
-fn first_place(layout: Layout, m: usize, b: usize) -> usize
+pub fn first_place(layout: Layout, m: usize, b: usize) -> usize
     requires { ⌜ Among layout m b ⌝ }
     ensures { λ r. ⌜ r ≡ blockRow layout m b * stride layout + blockColumn layout m b ⌝ }
 {

@@ -18,8 +18,7 @@ use Rattle.refusal.specs.declared.Refusal.the-variants as refusal
 use Rattle.refusal.proofs.Same.{says, says-same, says-exactly-if}
 use Rattle.quantizer.specs.Range.{highest}
 use Rattle.record.specs.Entry.{sizeHolds}
-use Rattle.picture.specs.Plane.{samplesOf}
-use Rattle.plane.specs.Content.{layoutOf}
+use Rattle.picture.specs.Plane.{layoutOf, samplesOf}
 use Rattle.plane.specs.Decode.{countOf}
 use Rattle.plane.specs.Code.{codedFile, codedPlane, codePlaneTests, saidPlane, bytesUsed, over, CodesPlane}
 use Rattle.plane.specs.declared.CodedPlane.{CodedPlane}

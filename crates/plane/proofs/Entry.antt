@@ -6,14 +6,13 @@
 --     decode-plane-refuses-exactly-if
 -- Assumes nothing.
 use mathlib.Core.Path.{_≡_, refl, sym, ap, subst, _∙_}
-use mathlib.Core.Bool.{Bool, true, false, _&&_}
+use mathlib.Core.Bool.{true}
 use mathlib.Core.List.{List, _∷_}
-use Prim.Native.Nat.{ℕ, _+_, _*_, _<_, _≤_}
+use Prim.Native.Nat.{ℕ, _+_, _*_}
 use native.Mathlib.Omega.{arith}
-use borrow.Author.Tests.{eq-eqb, ne-eqb, leb-true}
-use lib.Dec.{leb}
+use borrow.Author.Tests.{eq-eqb, ne-eqb}
 use lib.ListN.{length}
-use Rattle.lists.specs.Chain.{Test, Verdict, pass, stop, chain, written}
+use Rattle.lists.specs.Chain.{Verdict, pass, stop, chain, written}
 use Rattle.lists.proofs.Chain.{ExactlyIf, chain-exactly-if, chain-passed, chain-refused}
 use Rattle.refusal.specs.Number.{said}
 use Rattle.refusal.specs.declared.Answer.{Answer}
@@ -28,12 +27,12 @@ use Rattle.record.specs.declared.Head.the-variants as head-variants
 use Rattle.record.specs.declared.Walk.{Walk}
 use Rattle.record.specs.declared.Walk.the-variants.{Whole, Broken}
 use Rattle.record.specs.Entry as head
-use Rattle.record.specs.Entry.{ReadsHead, headTests, widthAt, heightAt, dimension, sizeHolds}
+use Rattle.record.specs.Entry.{ReadsHead, headTests, widthAt, heightAt, sizeHolds}
 use Rattle.record.specs.Faults.{refusalOf, walkOf}
+use Rattle.record.proofs.Heads.{sized-of}
 use Rattle.picture.specs.declared.Layout.{Layout}
 use Rattle.picture.specs.Order.{Sound}
-use Rattle.picture.specs.Plane.{samplesOf}
-use Rattle.plane.specs.Content.{layoutOf}
+use Rattle.picture.specs.Plane.{layoutOf, samplesOf}
 use Rattle.plane.specs.Decode.{countOf, came, formTest, contentsTests, bodyTests, layoutIn, decodeTests, Walked, decoded, DecodesBody, Decodes}
 
 module _ (l : Layout) (file : List ℕ) where
@@ -79,17 +78,8 @@ module _ (l : Layout) (file plane : List ℕ) where
 
 -- ---- the head
 
-both : (a b : Bool) → (a && b) ≡ true → (a ≡ true) × (b ≡ true)
-both true b e = (refl, e)
-both false b e = (cc, cc)
-
 pub sound-of : (width height : ℕ) → sizeHolds width height ≡ true → Sound (layoutOf width height)
-unfolding sizeHolds
-sound-of width height e =
-    let d = both (dimension width) (dimension height) e in
-    let w = both (leb 1 width) (leb width 128) (d .0) in
-    let h = both (leb 1 height) (leb height 128) (d .1) in
-    record { some = leb-true 1 width (w .0); wide = leb-true width 128 (w .1); high = leb-true height 128 (h .1); whole = refl }
+sound-of width height e = let s = sized-of width height e in record { some = s .some; wide = s .wide; high = s .high; whole = refl }
 
 pub record LegalHead (file : List ℕ) (width height : ℕ) : Type 0 where
   pub passed : chain (headTests file) ≡ pass

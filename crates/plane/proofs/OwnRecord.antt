@@ -24,11 +24,10 @@ use Rattle.record.specs.Records.{headOf}
 use Rattle.record.proofs.Back.{length-head}
 use Rattle.picture.specs.declared.Layout.{Layout}
 use Rattle.picture.specs.Order.{blockColumn, blockRow, orderOf}
-use Rattle.picture.specs.Plane.{samplesOf, blockAt, blockOf, withBlock, gathered, turn}
+use Rattle.picture.specs.Plane.{layoutOf, samplesOf, blockAt, blockOf, withBlock, gathered, turn}
 use Rattle.picture.proofs.Owner.{own-order}
 use Rattle.picture.proofs.Plane.{within, room-of}
 use Rattle.picture.proofs.Start.{AlikeTo}
-use Rattle.plane.specs.Content.{layoutOf}
 use Rattle.plane.specs.Decode.{countOf, cleared}
 use Rattle.plane.specs.Code.{roundOf, modeFrom, levelsFrom, samplesFrom, seen, recordFrom, planeBefore, fileFrom, CodesPlane}
 use Rattle.plane.specs.declared.CodedPlane.the-variants.{Bytes}

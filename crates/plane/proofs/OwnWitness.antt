@@ -35,10 +35,9 @@ use Rattle.record.specs.Modes.{packed}
 use Rattle.record.specs.Numbers.{levelBytes}
 use Rattle.record.specs.Records.{summed, frontOf, recordOf}
 use Rattle.picture.specs.Order.{blockTable, blockIn, tablePlace, columnIn, rowIn, blockColumn, blockRow, orderAt}
-use Rattle.picture.specs.Plane.{blockAt, stored, neighbour, gathered, turn}
+use Rattle.picture.specs.Plane.{layoutOf, blockAt, stored, neighbour, gathered, turn}
 use Rattle.picture.specs.Presence.{present, presentAt, flagsOf}
 use Rattle.picture.proofs.Blocks.{inner-facts}
-use Rattle.plane.specs.Content.{layoutOf}
 use Rattle.plane.specs.Decode.{cleared}
 use Rattle.plane.specs.Code.{levelsFrom, samplesFrom, seen, recordFrom, planeBefore}
 use Rattle.plane.proofs.OwnRecord.{SameTo, recordOn, own-record}

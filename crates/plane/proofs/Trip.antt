@@ -29,9 +29,9 @@ use Rattle.record.specs.Records.{headOf}
 use Rattle.record.proofs.Back.{length-head, width-back, height-back, head-own, walk-own}
 use Rattle.record.proofs.Walks.{record-known}
 use Rattle.picture.specs.declared.Layout.{Layout}
-use Rattle.picture.specs.Plane.{samplesOf, turn, allTurns}
+use Rattle.picture.specs.Plane.{layoutOf, samplesOf, turn, allTurns}
 use Rattle.picture.proofs.Bytes.{macroblocks-bytes}
-use Rattle.plane.specs.Content.{layoutOf, contentTests}
+use Rattle.plane.specs.Content.{contentTests}
 use Rattle.plane.specs.Decode.{countOf, recordIn, contentsTests, bodyTests, blockFrom, rebuiltFrom, cleared, Decodes}
 use Rattle.plane.specs.Code.{samplesFrom, modesFrom, blocksFrom, recordFrom, planeBefore, planeFrom, fileFrom, codedFile, codedPlane, CodesPlane}
 use Rattle.plane.specs.declared.CodedPlane.the-variants as coded

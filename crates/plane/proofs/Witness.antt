@@ -28,7 +28,8 @@ use Rattle.record.specs.Records.{blockIn}
 use Rattle.picture.specs.Order as order
 use Rattle.picture.specs.Order.{blockTable, tablePlace, columnIn, rowIn, blockColumn, blockRow, orderAt}
 use Rattle.picture.specs.Presence.{present, presentAt, flagsOf}
-use Rattle.plane.specs.Content.{layoutOf, modeHolds, rescaledIn, rangeHolds, firstMode, firstRange, contentTests}
+use Rattle.picture.specs.Plane.{layoutOf}
+use Rattle.plane.specs.Content.{modeHolds, rescaledIn, rangeHolds, firstMode, firstRange, contentTests}
 use Rattle.plane.specs.Code.{codePlaneTests}
 use Rattle.plane.specs.Decode.{Decodes}
 

@@ -21,7 +21,7 @@ use Rattle.record.specs.Records.{headOf, recordOf}
 use Rattle.picture.specs.declared.Layout.{Layout}
 use Rattle.picture.specs.Plane as picture
 use Rattle.picture.specs.Presence.{flagsOf}
-use Rattle.plane.specs.Content.{layoutOf}
+use Rattle.picture.specs.Plane.{layoutOf}
 use Rattle.plane.specs.Decode.{countOf, cleared}
 use Rattle.plane.specs.declared.CodedPlane.{CodedPlane}
 use Rattle.plane.specs.declared.CodedPlane.the-variants.{Bytes, Refused}

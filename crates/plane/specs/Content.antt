@@ -19,10 +19,6 @@ use Rattle.record.specs.Records.{qpIn, modeIn, blockIn}
 use Rattle.picture.specs.declared.Layout.{Layout}
 use Rattle.picture.specs.Presence.{flagsOf}
 
--- the picture of a size, as one slice
-abbrev pub layoutOf : (width height : ℕ) → Layout
-layoutOf width height = record { width = width; height = height; rows = height }
-
 -- MODE: "number above 8, or what it needs is missing"
 unfoldable pub modeHolds : Layout → (m : ℕ) → List ℕ → (b : ℕ) → Bool
 modeHolds l m part b = permitted (flagsOf l m b) (modeIn b part)

@@ -25,7 +25,8 @@ use Rattle.record.specs.Records.{modeIn, recordAt, recordPlace}
 use Rattle.picture.specs.declared.Layout.{Layout}
 use Rattle.picture.specs.Plane as picture
 use Rattle.picture.specs.Presence.{flagsOf}
-use Rattle.plane.specs.Content.{layoutOf, rescaledIn, contentTests}
+use Rattle.picture.specs.Plane.{layoutOf}
+use Rattle.plane.specs.Content.{rescaledIn, contentTests}
 
 -- how many macroblocks a picture has
 abbrev pub countOf : Layout → ℕ

@@ -6,7 +6,7 @@ ghost use lib.ListN.{length};
 ghost use Rattle.lists.specs.Chain.{chain};
 ghost use Rattle.refusal.specs.Number.{said};
 ghost use Rattle.picture.specs.Order.{Sound};
-ghost use Rattle.plane.specs.Content.{layoutOf};
+ghost use Rattle.picture.specs.Plane.{layoutOf};
 ghost use Rattle.plane.specs.Code.{CodesPlane};
 ghost use Rattle.plane.specs.Decode.{countOf, formTest, contentsTests, DecodesBody, Decodes};
 use quantizer::Built;

@@ -2,22 +2,16 @@
 ghost use mathlib.Core.Path.{_≡_};
 ghost use Prim.Native.Nat.{_≤_};
 ghost use lib.ListN.{length};
-ghost use Rattle.lists.specs.Total.{distance};
 ghost use Rattle.predict.specs.Choice as paper;
 ghost use Rattle.predict.specs.Code.{areaCost, standing, looked, Small};
 use crate::inner::permitted;
 use crate::rules::wide;
+use whole::inner::distance;
 
 // The best mode so far and its SAD.
 pub(crate) struct Standing {
     pub(crate) mode: u8,
     pub(crate) sad: u32,
-}
-
-fn difference(a: u8, b: u8) -> u16
-    ensures { λ r. ⌜ (r ≡ distance a b) × (r ≤ 255) ⌝ }
-{
-    if a < b { wide(b - a) } else { wide(a - b) }
 }
 
 // The sum of absolute differences of sixteen samples.
@@ -27,7 +21,7 @@ fn sad(a: &[u8], b: &[u8]) -> u16
 {
     let mut sum: u16 = 0;
     for k in 0..16 {
-        sum += difference(a[k], b[k]);
+        sum += wide(distance(a[k], b[k]));
     }
     sum
 }

@@ -3,8 +3,8 @@
 --     outside-le, outside-here, outside-before, outside-is    the place: inside the list or its end; this one is outside, none before; nothing else
 --     none-outside, none-each, each-none                      where it is the end: each is inside, and within a bound; and back
 -- Assumes nothing.
-use mathlib.Core.Path.{_≡_, refl, ap}
-use mathlib.Core.Bool.{Bool, true, false, not, _&&_}
+use mathlib.Core.Path.{_≡_, ap}
+use mathlib.Core.Bool.{Bool, true, false, not}
 use mathlib.Core.List.{List}
 use Prim.Native.Nat.{ℕ, _+_, _≤_, _<_}
 use native.Mathlib.Omega.{arith}
@@ -13,6 +13,7 @@ use lib.Dec.{T, leb, leb→le}
 use lib.IntN.{ℤ, pos, negsuc}
 use lib.ListN.{length, getD}
 use lib.Signed.{leZ}
+use Rattle.lists.proofs.Every.{both-true}
 use Rattle.lists.proofs.First.{first-le, first-before, first-passes, first-is, first-none}
 use Rattle.whole.specs.Bounds.{Within, Each}
 use Rattle.whole.specs.Range.{inside, firstOutside}
@@ -22,14 +23,10 @@ use Rattle.whole.proofs.Lists.{each-from}
 use Rattle.whole.proofs.Order.{tests, le-leZ}
 use Rattle.whole.proofs.Steps.{each-at}
 
-both : (a b : Bool) → (a && b) ≡ true → (a ≡ true) × (b ≡ true)
-both true b e = (refl, e)
-both false b e = (cc, cc)
-
 module _ (low high : ℤ) where
   pub inside-true : (z : ℤ) → inside low high z ≡ true → (leZ low z ≡ true) × (leZ z high ≡ true)
   unfolding inside
-  inside-true z e = both (leZ low z) (leZ z high) e
+  inside-true z e = both-true (leZ low z) (leZ z high) e
 
   -- ---- the test and a bound; at literals the two tests of the ends are `tt`
 

@@ -2,6 +2,7 @@
 ghost use mathlib.Core.Path.{_≡_};
 ghost use lib.IntN.{natAbs};
 ghost use lib.ListN.{length};
+ghost use Rattle.lists.specs.Total.{distance};
 ghost use Rattle.whole.specs.Clip.{clip};
 ghost use Rattle.whole.specs.Range.{inside, firstOutside};
 
@@ -14,6 +15,13 @@ pub fn absolute(z: i32) -> u32
     } else {
         z as u32
     }
+}
+
+// How far apart two bytes are.
+pub fn distance(a: u8, b: u8) -> u8
+    ensures { λ r. ⌜ r ≡ distance a b ⌝ }
+{
+    if a < b { b - a } else { a - b }
 }
 
 // z clipped to 0..=high.

@@ -1,2 +1,2 @@
-// Whole numbers: their meaning in specs/, their laws and the solver in proofs/, and three small functions for the crates above.
+// Whole numbers: their meaning in specs/, their laws and the solver in proofs/, and small functions for the crates above.
 pub mod inner;

@@ -11,6 +11,7 @@ mod peer;
 mod planes;
 mod random;
 mod request;
+mod sheets;
 
 use std::collections::BTreeMap;
 use std::env;

@@ -2,7 +2,7 @@
 
 use crate::functions::{number, Function};
 use crate::random::Random;
-use crate::request::{encoded, word, Argument};
+use crate::request::{encoded, outcome_of, word, Argument};
 use std::collections::BTreeMap;
 use std::io::{self, BufReader, BufWriter, Read, Write};
 use std::process::{Child, Command, Stdio};
@@ -69,7 +69,9 @@ fn check_answers(
         if answer != expected || bytes != left {
             return Err(difference(case, &lent, (expected, &left), (answer, &bytes)));
         }
-        *seen.entry(expected as u8).or_insert(0) += 1;
+        *seen
+            .entry(outcome_of(expected, function.outcomes))
+            .or_insert(0) += 1;
         watch(answer, &arguments);
     }
     Ok(seen)

@@ -13,6 +13,7 @@ mod predict;
 mod quantizer;
 pub mod record;
 mod refusal;
+mod sheet;
 mod transform;
 
 pub use block::{code_block, forward, levels, rebuild, rebuild_with_dc, unclipped};
@@ -21,3 +22,4 @@ pub use plane::{code_plane, decode_plane};
 pub use predict::{choose, predict, Choice, Mode};
 pub use quantizer::{chroma_quantizer, promised_distance, Quantizer};
 pub use refusal::Refusal;
+pub use sheet::quality_sheet;

@@ -68,7 +68,8 @@ impl Macroblock {
     }
 }
 
-fn test_size(width: usize, height: usize) -> Result<(), Refusal> {
+/// SIZE if a dimension is 0 or above 128.
+pub(crate) fn test_size(width: usize, height: usize) -> Result<(), Refusal> {
     let side = 1..=128;
     if !side.contains(&width) || !side.contains(&height) {
         return Err(Refusal::SIZE);

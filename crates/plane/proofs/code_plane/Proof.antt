@@ -7,8 +7,8 @@ use borrow.Author.Needs.{needs}
 use borrow.Author.Tests.{not-true, not-false}
 use Rattle.quantizer.proofs.Range.{built-legal, built-refused}
 use Rattle.picture.proofs.Plane.{samples-fit}
+use Rattle.picture.specs.Plane.{layoutOf}
 use Rattle.record.specs.Entry.{sizeHolds}
-use Rattle.plane.specs.Content.{layoutOf}
 use Rattle.plane.specs.Code.{fileFrom, planeFrom}
 use Rattle.plane.specs.Decode.{cleared}
 use Rattle.plane.proofs.CodedOutcome.{bad-size, plane-missed, file-missed, rebuilt-missed, high-quantizer, plane-coded}

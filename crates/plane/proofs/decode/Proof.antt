@@ -8,7 +8,7 @@ use lib.ListN.{length}
 use Rattle.refusal.specs.Number.{said}
 use Rattle.lists.specs.Chain.{chain, pass}
 use Rattle.picture.proofs.Plane.{samples-fit}
-use Rattle.plane.specs.Content.{layoutOf}
+use Rattle.picture.specs.Plane.{layoutOf}
 use Rattle.plane.specs.Decode.{bodyTests, rebuiltFrom, cleared}
 use Rattle.plane.proofs.Entry.{plane-short, file-short, body-rest, form-passed, body-refused, body-done}
 use Rattle.plane.proofs.decode.Statement.{statement}

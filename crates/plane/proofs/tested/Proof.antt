@@ -5,7 +5,7 @@ use native.Mathlib.Omega.{arith}
 use borrow.Author.Needs.{needs}
 use Rattle.lists.specs.Chain.{stop}
 use Rattle.picture.proofs.Plane.{samples-fit}
-use Rattle.plane.specs.Content.{layoutOf}
+use Rattle.picture.specs.Plane.{layoutOf}
 use Rattle.plane.proofs.Entry.{form-broken, form-whole, walked}
 use Rattle.plane.proofs.tested.Statement.{statement}
 use Rattle.plane.proofs.tested.Tie as tie

@@ -2,8 +2,7 @@
 use mathlib.Core.Path.{refl, ap, _∙_}
 use borrow.Author.Needs.{needs}
 use Rattle.record.specs.Numbers.{levelBytes}
-use Rattle.picture.specs.Plane.{gathered}
-use Rattle.plane.specs.Content.{layoutOf}
+use Rattle.picture.specs.Plane.{layoutOf, gathered}
 use Rattle.plane.proofs.Coding.{BlockCoded, block-coded, turn-coded}
 use Rattle.plane.proofs.code.code_block.Statement.{statement}
 use Rattle.plane.proofs.code.code_block.Tie as tie

@@ -3,7 +3,7 @@ use mathlib.Core.Path.{_≡_, refl, sym, ap, _∙_}
 use Prim.Native.Nat.{_-_}
 use native.Mathlib.Omega.{arith}
 use borrow.Author.Needs.{needs}
-use Rattle.plane.specs.Content.{layoutOf}
+use Rattle.picture.specs.Plane.{layoutOf}
 use Rattle.plane.proofs.Coding.{BlocksCoded, blocks-none, blocks-more, blocks-done}
 use Rattle.plane.proofs.code.code_blocks.Statement.{statement}
 use Rattle.plane.proofs.code.code_blocks.Tie as tie

@@ -4,7 +4,7 @@ use Prim.Native.Nat.{_*_, _-_, _≤_}
 use native.Mathlib.Omega.{arith}
 use borrow.Author.Needs.{needs}
 use Rattle.picture.proofs.Plane.{samples-fit}
-use Rattle.plane.specs.Content.{layoutOf}
+use Rattle.picture.specs.Plane.{layoutOf}
 use Rattle.plane.proofs.Coding.{FileCoded, file-begun, file-more, file-done}
 use Rattle.plane.proofs.code.code_file.Statement.{statement}
 use Rattle.plane.proofs.code.code_file.Tie as tie

@@ -3,7 +3,6 @@ use mathlib.Core.Path.{_≡_, refl, sym, ap, _∙_}
 use native.Mathlib.Omega.{arith}
 use borrow.Author.Needs.{needs}
 use Rattle.picture.proofs.Plane.{samples-fit}
-use Rattle.plane.specs.Content.{layoutOf}
 use Rattle.plane.proofs.Coding.{modes-small, macroblock-coded}
 use Rattle.plane.proofs.code.code_macroblock.Statement.{statement}
 use Rattle.plane.proofs.code.code_macroblock.Tie as tie

@@ -9,7 +9,8 @@ use Rattle.quantizer.specs.Range.{highest}
 use Rattle.quantizer.proofs.Range.{built-legal, built-refused}
 use Rattle.record.specs.Records.{qpIn}
 use Rattle.picture.proofs.Plane.{samples-fit}
-use Rattle.plane.specs.Content.{layoutOf, firstMode, firstRange}
+use Rattle.picture.specs.Plane.{layoutOf}
+use Rattle.plane.specs.Content.{firstMode, firstRange}
 use Rattle.plane.proofs.Records.{quantizer-high, mode-sent, range-far, content-fine}
 use Rattle.plane.proofs.content.content.Statement.{statement}
 use Rattle.plane.proofs.content.content.Tie as tie

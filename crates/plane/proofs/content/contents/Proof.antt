@@ -10,7 +10,8 @@ use Rattle.lists.specs.Parts.{parts}
 use Rattle.refusal.specs.Number.{said}
 use Rattle.refusal.specs.declared.Refusal.{Refusal}
 use Rattle.picture.proofs.Plane.{samples-fit}
-use Rattle.plane.specs.Content.{layoutOf, contentTests}
+use Rattle.picture.specs.Plane.{layoutOf}
+use Rattle.plane.specs.Content.{contentTests}
 use Rattle.plane.specs.Decode.{recordIn}
 use Rattle.plane.proofs.Files.{part-is}
 use Rattle.plane.proofs.content.contents.Statement.{statement}

@@ -6,7 +6,8 @@ use native.Mathlib.Omega.{arith}
 use mathlib.Core.List.{List}
 use Rattle.lists.proofs.First.{Searching, searching-none, searching-more, searching-here, searching-done}
 use Rattle.picture.specs.Order.{Among}
-use Rattle.plane.specs.Content.{layoutOf, modeHolds, firstMode}
+use Rattle.picture.specs.Plane.{layoutOf}
+use Rattle.plane.specs.Content.{modeHolds, firstMode}
 use borrow.Author.Needs.{needs}
 use Rattle.plane.proofs.content.first_mode.Statement.{statement}
 use Rattle.plane.proofs.content.first_mode.Tie as tie

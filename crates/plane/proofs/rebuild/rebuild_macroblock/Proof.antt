@@ -8,8 +8,7 @@ use Rattle.lists.proofs.Fold.{Folding, folding-none, folding-more, folding-done
 use Rattle.quantizer.specs.Range.{highest}
 use Rattle.quantizer.proofs.Range.{built-legal, built-refused}
 use Rattle.record.specs.Records.{qpIn}
-use Rattle.picture.specs.Plane.{samplesOf, turn}
-use Rattle.plane.specs.Content.{layoutOf}
+use Rattle.picture.specs.Plane.{layoutOf, samplesOf, turn}
 use Rattle.plane.specs.Decode.{blockFrom}
 use Rattle.plane.proofs.Records.{Fine, fine}
 use Rattle.plane.proofs.rebuild.rebuild_macroblock.Statement.{statement}

@@ -9,9 +9,9 @@ use Rattle.lists.specs.Chain.{chain, pass}
 use Rattle.lists.proofs.Chains.{chain-pass}
 use Rattle.lists.specs.Fold.{fold}
 use Rattle.lists.proofs.Fold.{Folding, folding-none, folding-more, folding-done}
-use Rattle.picture.specs.Plane.{samplesOf, turn, allTurns}
+use Rattle.picture.specs.Plane.{layoutOf, samplesOf, turn, allTurns}
 use Rattle.picture.proofs.Plane.{samples-fit}
-use Rattle.plane.specs.Content.{layoutOf, contentTests}
+use Rattle.plane.specs.Content.{contentTests}
 use Rattle.plane.specs.Decode.{recordIn, blockFrom, rebuiltFrom}
 use Rattle.plane.proofs.Files.{part-is, own-turns}
 use Rattle.plane.proofs.rebuild.rebuild_plane.Statement.{statement}

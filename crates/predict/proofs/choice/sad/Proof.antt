@@ -1,4 +1,5 @@
--- `predict::choice::sad` meets its contract: a loop that adds differences of at most 255. Assumes nothing.
+-- `predict::choice::sad` meets its contract: a loop that adds distances of at most 255. Assumes nothing.
+use mathlib.Core.Path.{_∙_}
 use Prim.Native.Nat.{ℕ, _-_}
 use native.Mathlib.Omega.{arith}
 use borrow.Author.Needs.{needs}
@@ -15,6 +16,11 @@ Inv-loop a b sum₀ k₀ sum k = Totalling 16 (λ (j : ℕ). distance (getD a j 
 abbrev μ-loop : tie.MeasureT-loop
 μ-loop a b sum₀ k₀ sum k = 16 - k
 
+again : tie.Need-loop-again Inv-loop μ-loop
+again c =
+    let D = c .before in
+    totalling-more _ _ _ (D .before .before .before .before .loop .inv) (omega arith) (c .wide .ensures .0 ∙ D .distance .ensures) (omega (arith, c .wide .ensures .1))
+
 returns : tie.Need-returns Inv-loop μ-loop
 unfolding sad
 returns c = (totalling-done _ _ _ (c .before .loop .inv) (omega arith), omega arith)
@@ -29,8 +35,9 @@ sad-spec =
     (λ c. search needs)
     (λ c. search needs)
     (λ c κs. search needs)
+    (λ c κs. search needs)
     (λ c. search needs)
     (λ c. search needs)
     (λ c. search needs)
-    (λ c. totalling-more _ _ _ (c .before .before .before .before .loop .inv) (omega arith) (c .difference .ensures .0) (c .difference .ensures .1))
+    again
     returns)

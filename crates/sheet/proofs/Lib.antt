@@ -1,0 +1,10 @@
+pub mod Absent
+pub mod Adding
+pub mod Answers
+pub mod Exact
+pub mod Floats
+pub mod Outcome
+pub mod Places
+pub mod Promised
+pub mod Unique
+pub mod Witness

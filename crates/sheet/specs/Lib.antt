@@ -1,0 +1,5 @@
+pub mod Code
+pub mod Entry
+pub mod Errors
+pub mod Means
+pub mod Promises
