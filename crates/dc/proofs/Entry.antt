@@ -16,8 +16,8 @@ use borrow.Author.Tests.{eq-eqb, ne-eqb, le-leb, eqb-true, leb-true}
 use lib.Dec.{eqb}
 use lib.IntN.{ℤ, pos, negsuc}
 use lib.ListN.{length}
-use Rattle.lists.specs.Chain.{Test, test, Verdict, chain, pass, stop, written}
-use Rattle.lists.proofs.Chain.{ExactlyIf, chain-exactly-if, chain-passed, chain-refused}
+use Rattle.lists.specs.Chain.{Test, test, chain, pass, stop}
+use Rattle.lists.proofs.Chain.{ExactlyIf, chain-exactly-if, chain-passed, chain-refused, holds-new}
 use Rattle.whole.specs.Bounds.{Each}
 use Rattle.whole.specs.Range.{firstOutside}
 use Rattle.whole.proofs.Range.{outside-le, none-each}
@@ -83,7 +83,7 @@ module _ (n qp given room : ℕ) where
         long = eqb-true given n (a .0);
         space = eqb-true room n (a .1 .0);
         legal = leb-true qp highest (a .1 .1 .0);
-        number = sym (ap built.qpOf e) ∙ p .value ∙ ap (λ (w : Verdict Refusal). written w qp 0) v;
+        number = sym (ap built.qpOf e) ∙ holds-new 0 v (p .value);
       }
 
   pub accepted-refused : {b : Built} {r : Refusal} → Accepts n qp given room b → b ≡ Refused r → chain (lentTests n qp given room) ≡ stop r

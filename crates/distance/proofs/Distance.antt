@@ -13,6 +13,7 @@ use lib.IntN.{ℤ, pos, natAbs, _+ℤ_, _-ℤ_, _*ℤ_}
 use lib.ListN.{getD}
 use Rattle.lists.specs.Chain.{Verdict, pass, written}
 use Rattle.lists.proofs.Bytes.{Bytes}
+use Rattle.lists.proofs.Chain.{holds-new}
 use Rattle.lists.proofs.Tab.{getD-tab}
 use Rattle.whole.specs.Bounds.{Within, Each}
 use Rattle.whole.specs.Clip.{clip}
@@ -143,6 +144,5 @@ pub coded-left-near : (qp flags : ℕ) (neighbours samples before : List ℕ) �
     → {v : Verdict Refusal} {after : List ℕ} → v ≡ pass → after ≡ written v (codedSamples qp (mask neighbours flags) samples) before
     → (place : ℕ) → place < 16 → 384 * distanceAt samples place (pos (getD after place 0)) ≤ promiseOf qp
 coded-left-near qp flags neighbours samples before near own passed wrote place h =
-    let made = codedSamples qp (mask neighbours flags) samples in
-    subst (λ (l : List ℕ). 384 * distanceAt samples place (pos (getD l place 0)) ≤ promiseOf qp) (sym (wrote ∙ ap (λ (u : Verdict Refusal). written u made before) passed))
+    subst (λ (l : List ℕ). 384 * distanceAt samples place (pos (getD l place 0)) ≤ promiseOf qp) (sym (holds-new before passed wrote))
     (coded-near qp flags neighbours samples near own place h)

@@ -16,10 +16,10 @@ use denote.Triple.Clauses.{AtExit}
 use borrow.Fn.Kinds.{Dens, resT, endedOf}
 use lib.IntN.{ℤ, pos}
 use lib.ListN.{getD}
-use Rattle.lists.specs.Chain.{Verdict, pass, chain, written}
+use Rattle.lists.specs.Chain.{pass, chain}
 use Rattle.lists.proofs.Bytes.{Bytes}
+use Rattle.lists.proofs.Chain.{holds-new}
 use Rattle.refusal.specs.Number as answer
-use Rattle.refusal.specs.declared.Refusal.{Refusal}
 use Rattle.refusal.proofs.Same.{says-same}
 use Rattle.quantizer.specs.Range.{tests}
 use Rattle.residual.specs.Entry.{rebuildTests}
@@ -44,7 +44,7 @@ pub promise-kept : (κs : Lfts 0) (a : Dens κs promised-distance.ps) (r : resT 
 promise-kept κs a r e p done original prediction own near place l =
     let n = distance (a .0) original prediction own near place l in
     let passed : chain (tests (a .0)) ≡ pass = sym (says-same (p .says)) ∙ done in
-    let is : valueOf r ≡ samplesOff (a .0) = p .value ∙ ap (λ (v : Verdict Refusal). written v (samplesOff (a .0)) 0) passed in
+    let is : valueOf r ≡ samplesOff (a .0) = holds-new 0 passed (p .value) in
     record { before = omega (arith, is, n .before); after = omega (arith, is, n .after) }
 
 pub rebuild-near : (κs : Lfts 3) (a : Dens κs rebuild.ps) (r : resT rebuild.r κs .Denot) (e : AtExit (endedOf 3 rebuild.ps rebuild.r) κs)
@@ -55,11 +55,9 @@ pub rebuild-near : (κs : Lfts 3) (a : Dens κs rebuild.ps) (r : resT rebuild.r 
     → (place : ℕ) → place < 16 → 384 * distanceAt original place (pos (getD (now (e .1 .1 .1 .0)) place 0)) ≤ promiseOf (a .0)
 rebuild-near κs a r e p done original own near sent place l =
     let prediction = now (a .1 .0) in
-    let made = samplesOf prediction (numbersOf (a .0) (now (a .1 .1 .0))) in
     let passed : chain (rebuildTests (a .0) prediction (now (a .1 .1 .0)) (now (a .1 .1 .1 .0))) ≡ pass = sym (says-same (p .says)) ∙ done in
     let is : now (e .1 .1 .1 .0) ≡ samplesOf prediction (numbersSent (a .0) original prediction) =
-    p .wrote
-    ∙ ap (λ (v : Verdict Refusal). written v made (now (a .1 .1 .1 .0))) passed
+    holds-new (now (a .1 .1 .1 .0)) passed (p .wrote)
     ∙ ap (λ (levels : List ℤ). samplesOf prediction (numbersOf (a .0) levels)) sent in
     subst (λ (m : List ℕ). 384 * distanceAt original place (pos (getD m place 0)) ≤ promiseOf (a .0)) (sym is) (distance (a .0) original prediction own near place l .after)
 

@@ -12,7 +12,8 @@ use denote.Triple.Clauses.{AtExit}
 use borrow.Fn.Kinds.{Dens, resT, endedOf}
 use lib.IntN.{ℤ}
 use lib.ListN.{length}
-use Rattle.lists.specs.Chain.{Test, Verdict, pass, chain, written}
+use Rattle.lists.specs.Chain.{Test, Verdict, pass, chain}
+use Rattle.lists.proofs.Chain.{holds-new}
 use Rattle.refusal.specs.declared.Refusal.{Refusal}
 use Rattle.dc.specs.Dc.{lumaLevels, chromaLevels}
 use Rattle.dc.specs.Entry.{lumaLevelsTests, lumaValuesTests, chromaLevelsTests, chromaValuesTests}
@@ -40,7 +41,7 @@ there-and-back : (there : ℕ → List ℤ → List (Test Refusal)) (levelsOf : 
     → w′ ≡ 0
 there-and-back there levelsOf back values {qp} {qp′} {before} {after} {levels} same lent accepts p q done =
     let v : chain (there qp before) ≡ pass = passed-word (there qp before) 0 (p .word) done in
-    let made : after ≡ levelsOf qp = p .wrote ∙ ap (λ (u : Verdict Refusal). written u (levelsOf qp) before) v in
+    let made : after ≡ levelsOf qp = holds-new before v (p .wrote) in
     q .word
     ∙ (λ i. wordOf (chain (back (same i) ((lent ∙ made) i))) 0)
     ∙ ap (λ (u : Verdict Refusal). wordOf u 0) (accepts v)

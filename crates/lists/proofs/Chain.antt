@@ -1,7 +1,7 @@
 -- The law of a chain of tests: refused exactly if a test fails and all before it pass, passed exactly if all pass.
 --     AllPass, RefusedWith, ExactlyIf, chain-exactly-if
 --     chain-passed, chain-refused     a chain behind a chain
---     written-passed, written-refused     what an output holds at exit, by the verdict
+--     written-passed, written-refused, holds-new     what an output holds at exit, by the verdict
 -- Assumes nothing.
 use mathlib.Core.Path.{_≡_, refl, sym, ap, _∙_}
 use mathlib.Core.Bool.{Bool, true, false, cond}
@@ -85,3 +85,6 @@ module _ {R : Type 0} where
 
     pub written-refused : {old : A} {r : R} (new : A) → v ≡ stop r → old ≡ written v new old
     written-refused {old} new e = ap (λ (w : Verdict R). written w new old) (sym e)
+
+    pub holds-new : {new after : A} (old : A) → v ≡ pass → after ≡ written v new old → after ≡ new
+    holds-new {new} old e wrote = wrote ∙ ap (λ (w : Verdict R). written w new old) e

@@ -12,3 +12,4 @@ pub mod Places
 pub mod Stores
 pub mod Tab
 pub mod Total
+pub mod Turned

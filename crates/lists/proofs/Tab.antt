@@ -1,5 +1,6 @@
 -- Laws of lists by the rule of their elements, and the two loops that fill such a list.
 --     length-tab, getD-tab, tab-same, tab-of                       its elements; equal rules; a list is the list of its own elements
+--     row-below, column-below, getD-grid, grid-same                squares: the row and the column of a place; its elements; equal rules
 --     Filling: filling-none, filling-more, filling-done            one loop over k that stores f k at k
 --     Squaring: squaring-none, squaring-more, squaring-row, squaring-done    a loop over y round one over x that stores the rule at n * y + x
 -- Assumes nothing.
@@ -7,7 +8,7 @@ use mathlib.Core.Path.{_≡_, refl, sym, ap, _∙_}
 use mathlib.Core.List.{List, [], _∷_, _++_}
 use mathlib.Core.Logic.{⊎-elim}
 use Prim.Native.Nat.{ℕ, zero, suc, _+_, _*_, _/_, _%_, _<_, _≤_, zero-le}
-use native.Mathlib.Nat.{not-suc-le-zero, le-of-suc-le-suc, eq-or-lt-of-le, mul-comm}
+use native.Mathlib.Nat.{not-suc-le-zero, le-of-suc-le-suc, eq-or-lt-of-le, mul-comm, mod-lt, div-lt-iff-lt-mul}
 use native.Mathlib.Numerals.{add-one}
 use native.Mathlib.Omega.{arith}
 use lib.Arith.{digits-lt, digits-div, digits-mod}
@@ -15,6 +16,18 @@ use lib.ListN.{length, set, getD, take, length-append, length-set, List·getD-ap
 use lib.Seq.{take-suc-set, take-all, ext-getD, getD-at}
 use Rattle.lists.specs.Tab.{tab, grid, inRaster}
 use Rattle.lists.proofs.Parts.{Growing, growing-none, growing-more, growing-done}
+
+some-row : (n k : ℕ) → k < n * n → 0 < n
+some-row zero k h = absurd (not-suc-le-zero h)
+some-row (suc n) k h = omega arith
+
+-- the row and the column of a place of n rows and n columns
+module _ (n k : ℕ) (h : k < n * n) where
+  pub row-below : k / n < n
+  row-below = div-lt-iff-lt-mul (some-row n k h) .1 h
+
+  pub column-below : k % n < n
+  column-below = mod-lt k (some-row n k h)
 
 module _ {A : Type 0} where
   pub length-tab : (n : ℕ) (f : ℕ → A) → length (tab n f) ≡ n
@@ -49,6 +62,10 @@ module _ {A : Type 0} where
       let b : n * y + x < n * n = omega (arith, c, digits-lt k h) in
       getD-tab (n * n) (inRaster n rule) (n * y + x) d b
       ∙ rw (c, digits-mod y {m = n} {r = x} h, digits-div y {m = n} {r = x} h)
+
+  pub grid-same : (n : ℕ) (rule rule′ : ℕ → ℕ → A) → ((x y : ℕ) → x < n → y < n → rule x y ≡ rule′ x y) → grid n rule ≡ grid n rule′
+  unfolding grid
+  grid-same n rule rule′ h = tab-same (n * n) _ _ (λ k l. h (k % n) (k / n) (column-below n k l) (row-below n k l))
 
   -- ---- a loop that stores f k at k
 

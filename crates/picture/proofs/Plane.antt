@@ -8,7 +8,7 @@
 -- Assumes nothing.
 use mathlib.Core.Path.{_≡_, sym, ap, _∙_}
 use mathlib.Core.List.{List}
-use Prim.Native.Nat.{ℕ, zero, suc, _+_, _*_, _/_, _%_, _<_, _≤_}
+use Prim.Native.Nat.{ℕ, _+_, _*_, _/_, _%_, _<_, _≤_}
 use native.Mathlib.Nat.{mod-lt, div-add-mod', div-lt-iff-lt-mul, mul-le-mul-right}
 use native.Mathlib.Omega.{arith}
 use lib.Arith.{digits-lt, digits-div, digits-mod}
@@ -16,7 +16,7 @@ use lib.ListN.{length, getD}
 use Rattle.lists.specs.Stores.{stores}
 use Rattle.lists.specs.Tab.{grid, inRaster}
 use Rattle.lists.proofs.Stores.{length-stores, getD-stores-at, getD-stores-off, stores-same}
-use Rattle.lists.proofs.Tab.{tab-of, tab-same}
+use Rattle.lists.proofs.Tab.{row-below, column-below, tab-of, tab-same}
 use Rattle.picture.specs.declared.Layout.{Layout}
 use Rattle.picture.specs.Order.{Sound, Among, rowIn, blockColumn, blockRow}
 use Rattle.picture.specs.Plane.{stride, samplesOf, sampleAt, blockAt, samplePlace, stored}
@@ -27,17 +27,7 @@ pub record Room (n len s x y : ℕ) : Type 0 where
   pub wide : x + n ≤ s
   pub high : (y + n) * s ≤ len
 
--- the digits of a place in the block
-side : (n k : ℕ) → k < n * n → 0 < n
-side zero k h = absurd (omega arith)
-side (suc n) k h = omega arith
-
-pub digit-column : (n k : ℕ) → k < n * n → k % n < n
-digit-column n k h = mod-lt k (side n k h)
-
-pub digit-row : (n k : ℕ) → k < n * n → k / n < n
-digit-row n k h = div-lt-iff-lt-mul (side n k h) .1 h
-
+-- a place in the block is known by its digits
 same-digits : (n j k : ℕ) → j % n ≡ k % n → j / n ≡ k / n → j ≡ k
 same-digits n j k c r = sym (div-add-mod' j n) ∙ rw (c, r) (div-add-mod' k n)
 
@@ -60,9 +50,9 @@ module _ (n s x y : ℕ) (block plane : List ℕ) where
   sample-stored r k h =
       getD-stores-at (samplePlace n s x y) (λ j. getD block j 0) (n * n) plane k 0
       (λ j l e.
-      let q = cell s (x + k % n) (y + k / n) (x + j % n) (y + j / n) (omega (arith, r .wide, digit-column n k h)) (omega (arith, r .wide, digit-column n j l)) e in
+      let q = cell s (x + k % n) (y + k / n) (x + j % n) (y + j / n) (omega (arith, r .wide, column-below n k h)) (omega (arith, r .wide, column-below n j l)) e in
       same-digits n j k (omega (arith, q .0)) (omega (arith, q .1)))
-      h (within r (k % n) (k / n) (digit-column n k h) (digit-row n k h))
+      h (within r (k % n) (k / n) (column-below n k h) (row-below n k h))
 
   pub sample-off : x + n ≤ s → (i j : ℕ) → i < s → ((a c : ℕ) → a < n → c < n → i ≡ x + a → j ≡ y + c → ⊥)
       → sampleAt s (stored n s x y block plane) i j ≡ sampleAt s plane i j
@@ -70,8 +60,8 @@ module _ (n s x y : ℕ) (block plane : List ℕ) where
   sample-off w i j h off =
       getD-stores-off (samplePlace n s x y) (λ k. getD block k 0) (n * n) plane (j * s + i) 0
       (λ k l e.
-      let q = cell s i j (x + k % n) (y + k / n) h (omega (arith, digit-column n k l)) e in
-      off (k % n) (k / n) (digit-column n k l) (digit-row n k l) (q .0) (q .1))
+      let q = cell s i j (x + k % n) (y + k / n) h (omega (arith, column-below n k l)) e in
+      off (k % n) (k / n) (column-below n k l) (row-below n k l) (q .0) (q .1))
 
   pub read-stored : length block ≡ n * n → Room n (length plane) s x y → blockAt n s x y (stored n s x y block plane) ≡ block
   unfolding blockAt grid

@@ -11,8 +11,8 @@ use Prim.Native.Nat.{ℕ, _+_, _*_, _<_, _≤_}
 use native.Mathlib.Omega.{arith}
 use borrow.Author.Tests.{eqb-true, leb-true, eq-eqb, ne-eqb, le-leb, lt-leb}
 use lib.ListN.{length, drop-of-length-le}
-use Rattle.lists.specs.Chain.{Verdict, pass, stop, chain, written}
-use Rattle.lists.proofs.Chain.{ExactlyIf, chain-exactly-if}
+use Rattle.lists.specs.Chain.{pass, stop, chain}
+use Rattle.lists.proofs.Chain.{ExactlyIf, chain-exactly-if, holds-new}
 use Rattle.refusal.specs.declared.Refusal.{Refusal}
 use Rattle.refusal.specs.declared.Refusal.the-variants as refusal
 use Rattle.refusal.proofs.Same.{says, says-same, says-exactly-if}
@@ -113,8 +113,7 @@ module _ (width height qp : ℕ) (plane : List ℕ) where
         long = eqb-true (length plane) (samplesOf (layoutOf width height)) (all .1 .0);
         room = eqb-true (length rebuilt) (samplesOf (layoutOf width height)) (all .1 .1 .1 .0);
         legal = leb-true qp highest (all .1 .1 .1 .1 .0);
-        bytes = c .used ∙ ap (λ (w : Verdict Refusal). written w (length (codedFile (layoutOf width height) qp plane)) 0) v ∙ n;
-        filed = c .filed ∙ ap (λ (w : Verdict Refusal). written w (over (codedFile (layoutOf width height) qp plane) file) file) v
-            ∙ over-all (codedFile (layoutOf width height) qp plane) file (area ∙ sym n);
-        stored = c .stored ∙ ap (λ (w : Verdict Refusal). written w (codedPlane (layoutOf width height) qp plane) rebuilt) v;
+        bytes = holds-new 0 v (c .used) ∙ n;
+        filed = holds-new file v (c .filed) ∙ over-all (codedFile (layoutOf width height) qp plane) file (area ∙ sym n);
+        stored = holds-new rebuilt v (c .stored);
       }

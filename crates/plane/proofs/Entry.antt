@@ -13,7 +13,7 @@ use native.Mathlib.Omega.{arith}
 use borrow.Author.Tests.{eq-eqb, ne-eqb}
 use lib.ListN.{length}
 use Rattle.lists.specs.Chain.{Verdict, pass, stop, chain, written}
-use Rattle.lists.proofs.Chain.{ExactlyIf, chain-exactly-if, chain-passed, chain-refused}
+use Rattle.lists.proofs.Chain.{ExactlyIf, chain-exactly-if, chain-passed, chain-refused, holds-new}
 use Rattle.refusal.specs.Number.{said}
 use Rattle.refusal.specs.declared.Answer.{Answer}
 use Rattle.refusal.specs.declared.Answer.the-variants.{Done, Refused}
@@ -91,8 +91,8 @@ pub head-legal : (file : List ℕ) {h : Head} {width height : ℕ} → ReadsHead
 head-legal file {h} {width} {height} p e =
     let v : chain (headTests file) ≡ pass = sym (says-same (p .says)) ∙ ap head.said e in
     let a = chain-exactly-if (headTests file) .passes .0 v in
-    let w : width ≡ widthAt file = sym (ap head.widthOf e) ∙ p .width ∙ ap (λ (x : Verdict Refusal). written x (widthAt file) 0) v in
-    let k : height ≡ heightAt file = sym (ap head.heightOf e) ∙ p .height ∙ ap (λ (x : Verdict Refusal). written x (heightAt file) 0) v in
+    let w : width ≡ widthAt file = sym (ap head.widthOf e) ∙ holds-new 0 v (p .width) in
+    let k : height ≡ heightAt file = sym (ap head.heightOf e) ∙ holds-new 0 v (p .height) in
     record { passed = v; wide = w; high = k; sound = rw (w, k) (sound-of (widthAt file) (heightAt file) (a .1 .1 .1 .0)) }
 
 module _ (file before : List ℕ) where

@@ -1,4 +1,5 @@
 -- What the mask leaves of the neighbours, over the rows that the code reads.
+--     thirteen         a list of thirteen is its elements
 --     predicted-is     a permitted mode's samples are those of the rows; another mode has none
 --     none-exactly-if  a mode has no prediction exactly if the flags do not permit it
 --     mode-below-9     what is permitted has a number below 9
@@ -65,7 +66,7 @@ module _ (f m M A B C D E F G H I J K L : ℕ) where
   by-bit-3 false = over-rows f m M (A ∷ B ∷ C ∷ D ∷ D ∷ D ∷ D ∷ D ∷ []) (I ∷ J ∷ K ∷ L ∷ [])
 
 -- a list of thirteen is its elements
-thirteen : (n : List ℕ) → length n ≡ 13 → tab 13 (λ k. getD n k 0) ≡ n
+pub thirteen : (n : List ℕ) → length n ≡ 13 → tab 13 (λ k. getD n k 0) ≡ n
 thirteen n e = tab-of 13 (λ k. getD n k 0) n 0 e (λ k l. refl)
 
 module _ (n : List ℕ) (f m : ℕ) (e : length n ≡ 13) where

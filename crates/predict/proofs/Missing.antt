@@ -2,6 +2,7 @@
 --     missing-has-no-value            of a prediction: answer and samples
 --     missing-has-no-value-choice     of a choice: answer, mode, SAD and samples
 --     same-mask                       since everything below the mask is the same
+--     same-side                       a side that holds the same where it is present
 -- Assumes nothing.
 use mathlib.Core.Path.{_≡_, refl, sym, ap, ap₂, _∙_}
 use mathlib.Core.Bool.{Bool, true, false}
@@ -23,7 +24,7 @@ pub record AgreeWherePresent (f : ℕ) (n n′ : List ℕ) : Type 0 where
   pub left : bitOf f 1 ≡ true → leftOf n ≡ leftOf n′
   pub corner : bitOf f 2 ≡ true → cornerOf n ≡ cornerOf n′
 
-same-side : (b : Bool) (l l′ : List ℕ) → (b ≡ true → l ≡ l′) → sideIf b l ≡ sideIf b l′
+pub same-side : (b : Bool) (l l′ : List ℕ) → (b ≡ true → l ≡ l′) → sideIf b l ≡ sideIf b l′
 same-side true l l′ h = ap (sideIf true) (h refl)
 same-side false l l′ h = refl
 

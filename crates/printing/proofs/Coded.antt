@@ -8,7 +8,8 @@ use Prim.Native.Nat.{ℕ}
 use borrow.Author.Tests.{eq-eqb, ne-eqb}
 use lib.IntN.{ℤ, pos}
 use lib.ListN.{length, getD, take, drop, replicate}
-use Rattle.lists.specs.Chain.{Verdict, pass, stop, chain, written}
+use Rattle.lists.specs.Chain.{Verdict, pass, stop, chain}
+use Rattle.lists.proofs.Chain.{holds-new}
 use Rattle.refusal.specs.Number.{numberOf, placeOf}
 use Rattle.refusal.specs.declared.Refusal.{Refusal}
 use Rattle.refusal.proofs.Same.{says-same}
@@ -53,7 +54,7 @@ module _ (input : List ℕ) where
     pub text-coded : {m s : ℕ} → r ≡ Mode m s → okText (at m s) l o ≡ textOf input
     text-coded {m} {s} e =
         let v : tests ≡ pass = sym (says-same (p .says)) ∙ ap saidCoded e in
-        let b : at m s ≡ chosen (mask neighbours (getD input 1 0)) block = sym (ap bestCoded e) ∙ p .best ∙ ap (λ (u : Verdict Refusal). written u (chosen (mask neighbours (getD input 1 0)) block) nothing) v in
-        let y : l ≡ codedLevels (getD input 0 0) (mask neighbours (getD input 1 0)) block = p .levels ∙ ap (λ (u : Verdict Refusal). written u (codedLevels (getD input 0 0) (mask neighbours (getD input 1 0)) block) (replicate 16 (pos 0))) v in
-        let z : o ≡ codedSamples (getD input 0 0) (mask neighbours (getD input 1 0)) block = p .rebuilt ∙ ap (λ (u : Verdict Refusal). written u (codedSamples (getD input 0 0) (mask neighbours (getD input 1 0)) block) (replicate 16 0)) v in
+        let b : at m s ≡ chosen (mask neighbours (getD input 1 0)) block = sym (ap bestCoded e) ∙ holds-new nothing v (p .best) in
+        let y : l ≡ codedLevels (getD input 0 0) (mask neighbours (getD input 1 0)) block = holds-new (replicate 16 (pos 0)) v (p .levels) in
+        let z : o ≡ codedSamples (getD input 0 0) (mask neighbours (getD input 1 0)) block = holds-new (replicate 16 0) v (p .rebuilt) in
         (λ i. okText (b i) (y i) (z i)) ∙ ap (λ (u : Verdict Refusal). outcomeText u ok) (sym v) ∙ whole

@@ -11,8 +11,8 @@ use mathlib.Core.Bool.{Bool, true, false}
 use native.Mathlib.Omega.{arith}
 use borrow.Author.Tests.{le-leb, lt-leb, leb-true, leb-false}
 use lib.Dec.{leb}
-use Rattle.lists.specs.Chain.{Verdict, pass, stop, chain, written}
-use Rattle.lists.proofs.Chain.{ExactlyIf}
+use Rattle.lists.specs.Chain.{pass, stop, chain}
+use Rattle.lists.proofs.Chain.{ExactlyIf, holds-new}
 use Rattle.refusal.proofs.Same.{says, says-same, says-exactly-if}
 use Rattle.refusal.specs.declared.Refusal.{Refusal}
 use Rattle.refusal.specs.declared.Refusal.the-variants as refusal
@@ -47,7 +47,7 @@ module _ (qp : ℕ) where
       by : (t : Bool) → leb qp highest ≡ t → (q .qp ≡ qp) × (qp ≤ highest)
       by true t =
           let h = leb-true qp highest t in
-          (sym (ap qpOf e) ∙ p .value ∙ ap (λ (v : Verdict Refusal). written v qp 0) (legal qp h), h)
+          (sym (ap qpOf e) ∙ holds-new 0 (legal qp h) (p .value), h)
       by false t =
           let z : pass ≡ stop (refusal.Quantizer 0) = sym (ap said e) ∙ says-same (p .says) ∙ high qp (leb-false qp highest t) in
           let n : _≡_ {A = ℕ} 0 1 = cc in

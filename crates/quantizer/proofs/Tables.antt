@@ -1,6 +1,7 @@
 -- The rules of the tables, each one test that the checker computes over the whole table.
 --     zigzag-permutes     the zigzag visits each of the sixteen places once: step and place undo each other
 --     classes             the class table goes by the parity of row and column
+--     classes-turn        and does not tell rows from columns
 --     tables-agree        MF times V times 16, 25 or 20 is 2^21, give or take 277
 --     mf-small, v-small   the greatest entries
 -- Assumes nothing.
@@ -14,6 +15,7 @@ use lib.ListN.{getD}
 use Rattle.lists.specs.Every.{every}
 use Rattle.lists.specs.Total.{distance}
 use Rattle.lists.proofs.Every.{every-at}
+use Rattle.lists.proofs.Turned.{turnedPlace}
 use Rattle.quantizer.specs.Tables.{mfTable, vTable, mfOf, vOf, columnOf, zigzagOf, stepOf, classAtPlace}
 use Rattle.quantizer.specs.declared.Class.{Class}
 use Rattle.quantizer.specs.declared.Class.the-variants.{A, B, C}
@@ -61,6 +63,11 @@ classTable = A ∷ C ∷ A ∷ C ∷ C ∷ B ∷ C ∷ B ∷ A ∷ C ∷ A ∷ C
 pub classes : (place : ℕ) → place < 16 → getD classTable place A ≡ classAtPlace place
 classes place h =
     same-class _ _ (eqb→eq _ _ (every-at 16 (λ i. eqb (columnOf (getD classTable i A)) (columnOf (classAtPlace i))) tt place h))
+
+-- the class table is its own transpose
+pub classes-turn : (place : ℕ) → place < 16 → classAtPlace place ≡ classAtPlace (turnedPlace 4 place)
+classes-turn place h =
+    same-class _ _ (eqb→eq _ _ (every-at 16 (λ i. eqb (columnOf (classAtPlace i)) (columnOf (classAtPlace (turnedPlace 4 i)))) tt place h))
 
 -- ---- MF against V
 

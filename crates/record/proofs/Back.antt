@@ -17,7 +17,8 @@ use lib.Seq.{take-at, getD-append-add, getD-take, getD-drop, length-take-le}
 use mir.Syntax.{w16}
 use mir.Val.{ofZ, toZ, SFits}
 use mir.ValLaws.{toZ-ofZ}
-use Rattle.lists.specs.Chain.{Verdict, pass, chain, written}
+use Rattle.lists.specs.Chain.{Verdict, pass, chain}
+use Rattle.lists.proofs.Chain.{holds-new}
 use Rattle.lists.specs.Fold.{fold}
 use Rattle.lists.specs.Parts.{parts}
 use Rattle.lists.proofs.Fold.{fold-keeps}
@@ -25,8 +26,7 @@ use Rattle.lists.proofs.Pairs.{getD-pairs}
 use Rattle.lists.proofs.Parts.{part-behind}
 use Rattle.lists.proofs.Tab.{tab-of}
 use Rattle.refusal.proofs.Same.{says-same}
-use Rattle.refusal.specs.declared.Refusal.{Refusal}
-use Rattle.record.specs.Entry.{sizeHolds, widthAt, heightAt, headTests, ReadsHead}
+use Rattle.record.specs.Entry.{sizeHolds, headTests, ReadsHead}
 use Rattle.record.specs.Faults.{formTests, stepped, onward, walkOf}
 use Rattle.record.specs.Modes.{packed, unpaired}
 use Rattle.record.specs.Numbers.{bytesOf, numberAt, levelBytes}
@@ -104,11 +104,10 @@ module _ (width height : ℕ) where
     -- what `read_head` answers, whatever its contract allows
     pub head-back : sizeHolds width height ≡ true → (h : Head) → ReadsHead (headOf width height ++ rest) h → h ≡ Legal width height
     head-back s h p =
-        let file = headOf width height ++ rest in
         let e = head-own s in
         same-head h (Legal width height) (says-same (p .says) ∙ e)
-        (p .width ∙ ap (λ (v : Verdict Refusal). written v (widthAt file) 0) e ∙ width-back)
-        (p .height ∙ ap (λ (v : Verdict Refusal). written v (heightAt file) 0) e ∙ height-back)
+        (holds-new 0 e (p .width) ∙ width-back)
+        (holds-new 0 e (p .height) ∙ height-back)
 
 -- ---- a macroblock's record
 

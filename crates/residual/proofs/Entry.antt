@@ -6,8 +6,8 @@ use native.Mathlib.Omega.{arith}
 use borrow.Author.Tests.{eq-eqb, ne-eqb, le-leb, lt-leb, eqb-true, leb-true}
 use lib.IntN.{ℤ, pos, negsuc}
 use lib.ListN.{length}
-use Rattle.lists.specs.Chain.{Verdict, chain, pass, stop, written}
-use Rattle.lists.proofs.Chain.{ExactlyIf, chain-exactly-if}
+use Rattle.lists.specs.Chain.{chain, pass, stop}
+use Rattle.lists.proofs.Chain.{ExactlyIf, chain-exactly-if, holds-new}
 use Rattle.whole.specs.Bounds.{Each}
 use Rattle.whole.specs.Range.{firstOutside}
 use Rattle.whole.proofs.Range.{outside-le, none-each, each-none}
@@ -129,7 +129,7 @@ module _ (n from qp predicted : ℕ) (l : List ℤ) (room : ℕ) where
         count = k;
         space = eqb-true room 16 (a .1 .1 .0);
         legal = leb-true qp highest (a .1 .1 .1 .0);
-        number = sym (ap built.qpOf e) ∙ p .value ∙ ap (λ (x : Verdict Refusal). written x qp 0) v;
+        number = sym (ap built.qpOf e) ∙ holds-new 0 v (p .value);
         small = wide-each l (omega arith);
       }
 

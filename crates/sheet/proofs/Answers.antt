@@ -11,11 +11,10 @@ use native.Mathlib.Omega.{arith}
 use borrow.Author.Tests.{eqb-true, eqb-false, ltb-false, eq-eqb, ne-eqb}
 use lib.Dec.{ltb}
 use lib.ListN.{length, getD}
-use Rattle.lists.specs.Chain.{Verdict, pass, chain, written}
+use Rattle.lists.specs.Chain.{pass, chain}
 use Rattle.lists.proofs.First.{first-before}
-use Rattle.lists.proofs.Chain.{AllPass, chain-exactly-if}
+use Rattle.lists.proofs.Chain.{AllPass, chain-exactly-if, holds-new}
 use Rattle.lists.proofs.Total.{total-low, term-low}
-use Rattle.refusal.specs.declared.Refusal.{Refusal}
 use Rattle.refusal.proofs.Same.{says-same}
 use Rattle.record.specs.Entry.{sizeHolds}
 use Rattle.picture.specs.Plane.{layoutOf}
@@ -77,7 +76,7 @@ module _ (width height : ℕ) (original rebuilt map : List ℕ) where
   nothing-exactly-if r p = (only, if)
     where
       come : chain (sheetTests width height original rebuilt map) ≡ pass → givenIn r ≡ givenOf (layoutOf width height) original rebuilt map
-      come v = p .sheet ∙ ap (λ (w : Verdict Refusal). written w (givenOf (layoutOf width height) original rebuilt map) nothing) v
+      come v = holds-new nothing v (p .sheet)
 
       only : r ≡ answer.Nothing → AllPass (sheetTests width height original rebuilt map) × ((m : ℕ) → m < width * height → getD map m 0 ≡ 0)
       only e =
@@ -106,4 +105,4 @@ module _ (width height : ℕ) (original rebuilt map : List ℕ) where
   sheet-outcome p =
       let v : chain (sheetTests width height original rebuilt map) ≡ pass = sym (says-same (p .says)) in
       let a = chain-exactly-if (sheetTests width height original rebuilt map) .passes .0 v in
-      outcome (a .0) (p .sheet ∙ ap (λ (w : Verdict Refusal). written w (givenOf (layoutOf width height) original rebuilt map) nothing) v)
+      outcome (a .0) (holds-new nothing v (p .sheet))

@@ -48,7 +48,7 @@ module _ (n : ℕ) where
   exchanged : (M : Matrix) (x : Line) (j : ℕ) → sum n (λ k. x k *ℤ M j k) ≡ through n M x j
   exchanged M x j = sum-ext n _ _ (λ k h. *ℤ-comm (x k) (M j k))
 
-  around-ext : (M X Y : Matrix) → ((i j : ℕ) → i < n → j < n → X i j ≡ Y i j) → (i j : ℕ) → around n M X i j ≡ around n M Y i j
+  pub around-ext : (M X Y : Matrix) → ((i j : ℕ) → i < n → j < n → X i j ≡ Y i j) → (i j : ℕ) → around n M X i j ≡ around n M Y i j
   around-ext M X Y same i j = sum-ext n _ _ (λ k h. ap (λ (z : ℤ). M i k *ℤ z) (sum-ext n _ _ (λ l m. ap (λ (z : ℤ). z *ℤ M j l) (same k l h m))))
 
   -- ---- what undoes P in one dimension does so in two

@@ -12,18 +12,18 @@ use Prim.Native.Nat.{ℕ, _*_, _<_}
 use lib.Dec.{T, leb}
 use lib.IntN.{ℤ, pos}
 use lib.ListN.{length}
-use Rattle.lists.specs.Tab.{tab}
+use Rattle.lists.specs.Tab.{tab, turned}
 use Rattle.lists.proofs.Tab.{length-tab, getD-tab, tab-same}
 use Rattle.whole.specs.Bounds.{Each}
 use Rattle.whole.proofs.Lists.{each-less}
 use Rattle.whole.proofs.Sums.{same-below}
-use Rattle.transform.specs.Block.{line, turn, byRow, through, wide}
+use Rattle.transform.specs.Block.{line, byRow, through, wide}
 use Rattle.transform.specs.Forward.{C, forward}
 use Rattle.transform.specs.Hadamard.{H4, H2, hadamard}
 use Rattle.transform.specs.Inverse.{back, inverse, rounded}
 use Rattle.transform.specs.Matrix.{Line, Matrix, transposed, eachRow, eachColumn, raster, entries}
 use Rattle.transform.proofs.Products.{around}
-use Rattle.transform.proofs.Squares.{Grows, entries-same, turn-each, byRow-each}
+use Rattle.transform.proofs.Squares.{Grows, entries-same, turned-each, byRow-each}
 use Rattle.transform.proofs.Through.{sides, sides-symmetric}
 
 -- ---- bounds
@@ -34,7 +34,7 @@ kept B e h = subst (λ (z : List ℤ). Each B z) (sym e) h
 -- ---- each row and then each column, as the code goes: twice f of each row, then rows and columns exchanged
 
 abbrev pub across : (Line → Line) → List ℤ → List ℤ
-across f d = turn 4 (byRow 4 f d)
+across f d = turned (pos 0) 4 (byRow 4 f d)
 
 -- f makes numbers within M of numbers within B, and such numbers the code may hand round
 pub record Widens (f : Line → Line) (B M : ℕ) : Type 0 where
@@ -56,8 +56,8 @@ module _ {f : Line → Line} {B M : ℕ} (widens : Widens f B M) {d l m : List �
   between = holds M (rows ∙ ap (byRow 4 f) (from .is)) (byRow-each 4 f B M (widens .grows) d (from .each)) (widens .small)
 
   -- and behind it
-  pub beyond : {r : List ℤ} → r ≡ turn 4 m → Holds M (across f d) r
-  beyond e = holds M (e ∙ ap (turn 4) (between .is)) (turn-each 4 M (byRow 4 f d) (between .each)) (widens .small)
+  pub beyond : {r : List ℤ} → r ≡ turned (pos 0) 4 m → Holds M (across f d) r
+  beyond e = holds M (e ∙ ap (turned (pos 0) 4) (between .is)) (turned-each 4 M (byRow 4 f d) (between .each)) (widens .small)
 
 -- ---- the products
 

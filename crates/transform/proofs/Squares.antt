@@ -1,28 +1,22 @@
 -- Squares of n rows and n columns: as matrices, and in lists row by row.
---     row-below, column-below, place-again                 the row and the column of a place
 --     entries-at, length-entries, entries-same, entries-of a matrix's list: its elements, its length; of equal matrices; of a list's own matrix
 --     entries-each, raster-within                          bounds
 --     Local, Grows                                         a function of a line looks at n numbers only; how large its results can be
---     turn-each, byRow-each, both-sides                    rows and columns exchanged, and f of each row: twice both is f of each row and column
+--     turned-each, byRow-each, both-sides                  rows and columns exchanged, and f of each row: twice both is f of each row and column
 -- Assumes nothing.
 use mathlib.Core.Path.{_≡_, ap, _∙_}
 use mathlib.Core.List.{List}
-use Prim.Native.Nat.{ℕ, zero, suc, _+_, _*_, _/_, _%_, _<_}
-use native.Mathlib.Nat.{not-suc-le-zero, mod-lt, div-lt-iff-lt-mul, div-add-mod}
-use native.Mathlib.Omega.{arith}
+use Prim.Native.Nat.{ℕ, _+_, _*_, _/_, _%_, _<_}
+use native.Mathlib.Nat.{div-add-mod}
 use lib.IntN.{ℤ, pos}
 use lib.ListN.{length, getD}
-use Rattle.lists.specs.Tab.{grid}
-use Rattle.lists.proofs.Tab.{length-tab, getD-tab, getD-grid, tab-same, tab-of}
+use Rattle.lists.specs.Tab.{grid, turned}
+use Rattle.lists.proofs.Tab.{row-below, column-below, length-tab, getD-tab, tab-of, getD-grid, grid-same}
 use Rattle.whole.specs.Bounds.{Within, Each}
 use Rattle.whole.proofs.Steps.{each-at}
 use Rattle.whole.proofs.Lists.{each-from}
-use Rattle.transform.specs.Block.{turn, byRow}
+use Rattle.transform.specs.Block.{byRow}
 use Rattle.transform.specs.Matrix.{Line, Matrix, transposed, eachRow, eachColumn, raster, entries}
-
-some-row : (n k : ℕ) → k < n * n → 0 < n
-some-row zero k h = absurd (not-suc-le-zero h)
-some-row (suc n) k h = omega arith
 
 -- f looks at the first n numbers only
 abbrev pub Local : ℕ → (Line → Line) → Type 0
@@ -33,15 +27,6 @@ abbrev pub Grows : ℕ → (Line → Line) → ℕ → ℕ → Type 0
 Grows n f B M = (x : Line) → ((k : ℕ) → k < n → Within B (x k)) → (i : ℕ) → i < n → Within M (f x i)
 
 module _ (n : ℕ) where
-  pub row-below : (k : ℕ) → k < n * n → k / n < n
-  row-below k h = div-lt-iff-lt-mul (some-row n k h) .1 h
-
-  pub column-below : (k : ℕ) → k < n * n → k % n < n
-  column-below k h = mod-lt k (some-row n k h)
-
-  pub place-again : (k : ℕ) → n * (k / n) + k % n ≡ k
-  place-again k = div-add-mod k n
-
   -- ---- a matrix and its list
 
   pub entries-at : (A : Matrix) (i j : ℕ) → i < n → j < n → raster n (entries n A) i j ≡ A i j
@@ -52,12 +37,13 @@ module _ (n : ℕ) where
   length-entries A = length-tab (n * n) _
 
   pub entries-same : (A B : Matrix) → ((i j : ℕ) → i < n → j < n → A i j ≡ B i j) → entries n A ≡ entries n B
-  entries-same A B h = tab-same (n * n) _ _ (λ k l. h (k / n) (k % n) (row-below k l) (column-below k l))
+  unfolding grid
+  entries-same A B h = grid-same n (λ column row. A row column) (λ column row. B row column) (λ column row a b. h row column b a)
 
   pub entries-of : (A : Matrix) (l : List ℤ) → length l ≡ n * n → ((i j : ℕ) → i < n → j < n → A i j ≡ raster n l i j) → entries n A ≡ l
   entries-of A l e h =
       tab-of (n * n) _ l (pos 0) e
-      (λ k lt. h (k / n) (k % n) (row-below k lt) (column-below k lt) ∙ ap (λ (m : ℕ). getD l m (pos 0)) (place-again k))
+      (λ k lt. h (k / n) (k % n) (row-below n k lt) (column-below n k lt) ∙ ap (λ (m : ℕ). getD l m (pos 0)) (div-add-mod k n))
 
   -- ---- bounds
 
@@ -66,14 +52,14 @@ module _ (n : ℕ) where
       each-from B (entries n A)
       (λ k l.
       let m : k < n * n = rw length-entries at l in
-      rw (getD-tab (n * n) (λ place. A (place / n) (place % n)) k (pos 0) m) (h (k / n) (k % n) (row-below k m) (column-below k m)))
+      rw (getD-tab (n * n) (λ place. A (place / n) (place % n)) k (pos 0) m) (h (k / n) (k % n) (row-below n k m) (column-below n k m)))
 
   pub raster-within : (B : ℕ) (l : List ℤ) → Each B l → (i j : ℕ) → Within B (raster n l i j)
   raster-within B l h i j = each-at B l h (n * i + j)
 
-  pub turn-each : (B : ℕ) (l : List ℤ) → Each B l → Each B (turn n l)
-  unfolding turn
-  turn-each B l h = entries-each B _ (λ i j a b. raster-within B l h j i)
+  pub turned-each : (B : ℕ) (l : List ℤ) → Each B l → Each B (turned (pos 0) n l)
+  unfolding turned grid
+  turned-each B l h = entries-each B _ (λ i j a b. raster-within B l h j i)
 
   pub byRow-each : (f : Line → Line) (B M : ℕ) → Grows n f B M → (l : List ℤ) → Each B l → Each M (byRow n f l)
   unfolding byRow
@@ -81,8 +67,9 @@ module _ (n : ℕ) where
 
   -- ---- f of each row, then of each column
 
-  pub both-sides : (f : Line → Line) → Local n f → (l : List ℤ) → turn n (byRow n f (turn n (byRow n f l))) ≡ entries n (eachColumn f (eachRow f (raster n l)))
-  unfolding turn byRow
+  pub both-sides : (f : Line → Line) → Local n f → (l : List ℤ)
+      → turned (pos 0) n (byRow n f (turned (pos 0) n (byRow n f l))) ≡ entries n (eachColumn f (eachRow f (raster n l)))
+  unfolding turned grid byRow
   both-sides f local l = entries-same _ _ (λ i j a b.
       let rows = eachRow f (raster n l) in
       let across = transposed (raster n (entries n rows)) in

@@ -6,7 +6,7 @@ use lib.ListN.{getD}
 use Rattle.transform.specs.declared.inner.Quad.{Quad}
 use Rattle.transform.specs.declared.inner.Block.{Block}
 use Rattle.whole.specs.Sum.{sum}
-use Rattle.transform.specs.Matrix.{Line, Matrix, transposed, eachRow, raster, entries}
+use Rattle.transform.specs.Matrix.{Line, Matrix, eachRow, raster, entries}
 
 abbrev pub row : Quad → List ℤ
 row v = v .p ∷ v .q ∷ v .r ∷ v .s ∷ []
@@ -22,10 +22,7 @@ flat m =
 abbrev pub line : List ℤ → Line
 line l = λ place. getD l place (pos 0)
 
--- a square of n rows in a list with rows and columns exchanged, and with f of each row
-unfoldable pub turn : ℕ → List ℤ → List ℤ
-turn n l = entries n (transposed (raster n l))
-
+-- a square of n rows in a list with f of each row
 unfoldable pub byRow : ℕ → (Line → Line) → List ℤ → List ℤ
 byRow n f l = entries n (eachRow f (raster n l))
 

@@ -4,9 +4,9 @@ ghost use Prim.Native.Nat.{ℕ, _+_, _*_, _<_};
 ghost use lib.IntN.{pos};
 ghost use lib.ListN.{length, getD};
 ghost use Rattle.lists.specs.Stores.{stores};
-ghost use Rattle.lists.specs.Tab.{tab};
+ghost use Rattle.lists.specs.Tab.{tab, turned};
 ghost use Rattle.whole.specs.Bounds.{Within, Each};
-ghost use Rattle.transform.specs.Block.{row, flat, line, turn, byRow, through, wide};
+ghost use Rattle.transform.specs.Block.{row, flat, line, byRow, through, wide};
 ghost use Rattle.transform.specs.Forward.{C, forward};
 ghost use Rattle.transform.specs.Hadamard.{H4, H2, hadamard};
 ghost use Rattle.transform.specs.Inverse.{back, inverse, rounded};
@@ -28,7 +28,7 @@ struct Block {
 // Rows and columns exchanged.
 fn turned(m: Block) -> Block
     requires { ⌜ Each wide (flat m) ⌝ }
-    ensures { λ r. ⌜ flat r ≡ turn 4 (flat m) ⌝ }
+    ensures { λ r. ⌜ flat r ≡ turned (pos 0) 4 (flat m) ⌝ }
 {
     Block {
         a: Quad {
