@@ -1,23 +1,42 @@
-// Runs vectors through the entry points and prints a line a group. `.ci/run` holds what it prints to the file `stdout`.
-mod coding;
-mod dc_paths;
-mod planes;
-mod predictions;
-mod print;
-mod quantizers;
-mod recorded;
-mod records;
-mod residuals;
-mod transforms;
+// Asks the recorded requests of each function, and prints how many there were and how many were answered as recorded. `rt check` holds
+// what is printed to the file `stdout`, so that one other answer fails. tests/README.md has the layout of a recording.
+mod calls;
+mod frame;
+mod recording;
 
 fn main() {
-    quantizers::run();
-    predictions::run();
-    transforms::run();
-    residuals::run();
-    dc_paths::run();
-    records::run();
-    recorded::run();
-    planes::run();
-    coding::run();
+    blocks();
+    dc_paths();
+    quantizers();
+    planes();
+}
+
+// A function by its number in `calls`, and the file of its recording.
+fn blocks() {
+    recording::run(0, b"fb_predict");
+    recording::run(1, b"fb_choose");
+    recording::run(2, b"fb_forward");
+    recording::run(3, b"fb_levels");
+    recording::run(4, b"fb_rebuild");
+    recording::run(5, b"fb_rebuild_with_dc");
+    recording::run(11, b"fb_code_block");
+}
+
+fn dc_paths() {
+    recording::run(6, b"fb_luma_dc_levels");
+    recording::run(7, b"fb_luma_dc_values");
+    recording::run(8, b"fb_chroma_dc_levels");
+    recording::run(9, b"fb_chroma_dc_values");
+}
+
+fn quantizers() {
+    recording::run(17, b"quantizer");
+    recording::run(10, b"fb_chroma_quantizer");
+    recording::run(12, b"fb_promised_distance");
+}
+
+fn planes() {
+    recording::run(13, b"fb_code_plane");
+    recording::run(14, b"fb_read_head");
+    recording::run(15, b"fb_decode_plane");
 }

@@ -5,7 +5,7 @@ use crate::functions::{self, Function};
 use crate::peer;
 use crate::random::Random;
 use crate::request::Argument::{self, Bytes, Number, Numbers};
-use reference::Quantizer;
+use reference::{calls, Quantizer};
 use std::fmt::Write;
 
 const QPS: usize = 52;
@@ -15,7 +15,7 @@ const BLOCKS: Function = Function {
     cases: QPS * 20_000,
     outcomes: &[0],
     make: block,
-    call: functions::code_block,
+    call: calls::code_block,
 };
 
 /// A line for each QP: what the library promises, and the largest distance of all blocks before the clip and after it. A distance

@@ -6,6 +6,7 @@
 //! only after the last of them has passed.
 
 mod block;
+pub mod calls;
 mod dc;
 mod neighbours;
 mod plane;

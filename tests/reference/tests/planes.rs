@@ -1,5 +1,5 @@
 //! Planes: the files that an outside coder made and the planes that an outside
-//! decoder rebuilt from them (`crates/vectors/data`), and every refusal.
+//! decoder rebuilt from them (`tests/outside`), and every refusal.
 
 use std::fs;
 use std::path::Path;
@@ -25,7 +25,7 @@ const fn form(place: usize) -> Refusal {
 const UNTOUCHED: u8 = 0x5A;
 
 fn data(name: &str) -> Vec<u8> {
-    let directory = Path::new(env!("CARGO_MANIFEST_DIR")).join("../../crates/vectors/data");
+    let directory = Path::new(env!("CARGO_MANIFEST_DIR")).join("../outside");
     fs::read(directory.join(name)).unwrap_or_else(|error| panic!("{name}: {error}"))
 }
 

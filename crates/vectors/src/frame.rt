@@ -1,0 +1,95 @@
+// A request's frame: its parts stand in fixed places, and a number has its low byte first (tests/README.md).
+ghost use mathlib.Core.Path.{_≡_};
+ghost use Prim.Native.Nat.{_+_, _≤_, _<_};
+ghost use lib.ListN.{length};
+
+// What every byte of a frame holds at first, and every byte of an output before its call: so a number of an output is four of these.
+pub(crate) const BEFORE: u8 = 90;
+
+pub(crate) const NUMBER_BEFORE: i32 = 1515870810;
+
+// The rooms: a list of numbers; a file; a plane.
+pub(crate) const NUMBERS: usize = 17;
+
+pub(crate) const FILE: usize = 8440;
+
+pub(crate) const PLANE: usize = 4096;
+
+// Where the parts begin: the arguments that are no slices, eight bytes each; the word expected; the lengths of the six slices.
+pub(crate) const WORD: usize = 24;
+
+pub(crate) const LENGTHS: usize = 32;
+
+// The numbers lent, the numbers expected, the second and the first bytes lent, the bytes expected of both outputs.
+pub(crate) const LIST: usize = 44;
+
+pub(crate) const MADE: usize = 112;
+
+pub(crate) const SECOND: usize = 180;
+
+pub(crate) const FIRST: usize = 197;
+
+pub(crate) const OUT: usize = 8637;
+
+pub(crate) const MORE: usize = 17077;
+
+pub(crate) const END: usize = 21173;
+
+fn wide(byte: u8) -> u64
+    ensures { λ r. ⌜ r < 256 ⌝ }
+{
+    byte as u64
+}
+
+// The number of two bytes.
+pub(crate) fn two(part: &[u8], place: usize) -> u64
+    requires { ⌜ place + 2 ≤ length (now part) ⌝ }
+    ensures { λ r. ⌜ r < 65536 ⌝ }
+{
+    wide(part[place]) + 256 * wide(part[place + 1])
+}
+
+pub(crate) fn four(part: &[u8], place: usize) -> u64
+    requires { ⌜ place + 4 ≤ length (now part) ⌝ }
+    ensures { λ r. ⌜ r < 4294967296 ⌝ }
+{
+    two(part, place) + 65536 * two(part, place + 2)
+}
+
+pub(crate) fn eight(part: &[u8], place: usize) -> u64
+    requires { ⌜ place + 8 ≤ length (now part) ⌝ }
+{
+    four(part, place) + 4294967296 * four(part, place + 4)
+}
+
+// The number of four bytes that may be negative: two's complement.
+pub(crate) fn signed(part: &[u8], place: usize) -> i32
+    requires { ⌜ place + 4 ≤ length (now part) ⌝ }
+{
+    let bits = four(part, place);
+    if bits < 2147483648 {
+        bits as i32
+    } else {
+        !((4294967295 - bits) as i32)
+    }
+}
+
+pub(crate) fn numbers(part: &[u8]) -> [i32; 17]
+    requires { ⌜ length (now part) ≡ 68 ⌝ }
+    ensures { λ r. ⌜ length r ≡ 17 ⌝ }
+{
+    let mut list = [0i32; NUMBERS];
+    for k in 0..NUMBERS {
+        list[k] = signed(part, 4 * k);
+    }
+    list
+}
+
+// The length of a slice, cut to the room there is.
+pub(crate) fn lent(frame: &[u8], slice: usize, room: usize) -> usize
+    requires { ⌜ (slice < 6) × (length (now frame) ≡ 21173) ⌝ }
+    ensures { λ r. ⌜ r ≤ room ⌝ }
+{
+    let length = two(frame, LENGTHS + 2 * slice) as usize;
+    if length < room { length } else { room }
+}
