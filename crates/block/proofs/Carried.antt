@@ -18,7 +18,7 @@ use Rattle.predict.specs.declared.inner.Choice.{Choice}
 use Rattle.residual.specs.Levels.{quantized, levelsOf}
 use Rattle.residual.specs.Order.{inZigzag}
 use Rattle.residual.specs.Rescale.{rescaled}
-use Rattle.residual.specs.Rebuild.{added, samplesOf, numbersOf}
+use Rattle.residual.specs.Rebuild.{added, rebuiltSamples, rescaledOf}
 use Rattle.residual.proofs.Order.{length-zigzag, zigzag-each}
 use Rattle.residual.proofs.Own.{length-quantized, own-numbers, own-levels-in-range}
 use Rattle.block.specs.Block.{residualOf, predictionOf}
@@ -46,23 +46,23 @@ pub carried : (qp : ℕ) (round : Round) (block : List ℕ) (c : Choice) {x l d 
     → l ≡ quantized qp x
     → d ≡ rescaled qp l
     → z ≡ inZigzag l
-    → s ≡ samplesOf (c .prediction) d
+    → s ≡ rebuiltSamples (c .prediction) d
     → Each 32767 (levelsOf qp x)
     → Carries qp round block (record { mode = c .mode; sad = c .sad; levels = z; rebuilt = s })
 carried qp round block c {x} {l} {d} {z} {s} picks is-x is-l is-d is-z is-s small =
     let p : c .prediction ≡ predictionOf round block = picks .prediction ∙ ap (bestSamples round) (picks .best) in
     let y : x ≡ residualOf block (predictionOf round block) = is-x ∙ ap (residualOf block) p in
-    let n = is-d ∙ ap (rescaled qp) is-l ∙ sym (own-numbers qp x) ∙ ap (λ (r : List ℤ). numbersOf qp (levelsOf qp r)) y in
+    let n = is-d ∙ ap (rescaled qp) is-l ∙ sym (own-numbers qp x) ∙ ap (λ (r : List ℤ). rescaledOf qp (levelsOf qp r)) y in
     record {
       best = picks .best;
       small = subst (Each 32767) (sym (is-z ∙ ap inZigzag is-l)) small;
       levels = is-z ∙ ap inZigzag (is-l ∙ ap (quantized qp) y);
-      rebuilt = is-s ∙ (λ i. samplesOf (p i) (n i));
+      rebuilt = is-s ∙ (λ i. rebuiltSamples (p i) (n i));
     }
 
 -- sixteen of each
-pub length-samples : (prediction : List ℕ) (d : List ℤ) → length (samplesOf prediction d) ≡ 16
-unfolding samplesOf added
+pub length-samples : (prediction : List ℕ) (d : List ℤ) → length (rebuiltSamples prediction d) ≡ 16
+unfolding rebuiltSamples added
 length-samples prediction d = length-tab 16 _
 
 pub carried-long : {qp : ℕ} {round : Round} {block : List ℕ} {x : Block} → Carries qp round block x → (length (x .levels) ≡ 16) × (length (x .rebuilt) ≡ 16)

@@ -27,7 +27,7 @@ use Rattle.predict.specs.Entry.{bestSamples}
 use Rattle.predict.proofs.Bytes.{best-bytes, chosen-mode}
 use Rattle.residual.specs.Entry.{firstWide}
 use Rattle.residual.specs.Order.{inZigzag}
-use Rattle.residual.specs.Rebuild.{added, samplesOf, numbersOf}
+use Rattle.residual.specs.Rebuild.{added, rebuiltSamples, rescaledOf}
 use Rattle.residual.proofs.Order.{length-zigzag}
 use Rattle.residual.proofs.Own.{own-levels-in-range, own-numbers-fit}
 use Rattle.block.specs.Block.{residualOf, modeOf, codedMode, predictionOf, codedLevels, codedSamples}
@@ -46,8 +46,8 @@ own-residual-small n f s near own = residual-small s (predictionOf (mask n f) s)
 clip-byte : (z : ℤ) → clip 255 z < 256
 clip-byte z = omega (arith, clip-le 255 z)
 
-pub bytes-samples : (prediction : List ℕ) (d : List ℤ) → Bytes (samplesOf prediction d)
-unfolding samplesOf added
+pub bytes-samples : (prediction : List ℕ) (d : List ℤ) → Bytes (rebuiltSamples prediction d)
+unfolding rebuiltSamples added
 bytes-samples prediction d = bytes-tab 16 _ (λ place l. clip-byte _)
 
 pub record BlockLaws (qp : ℕ) (n : List ℕ) (f : ℕ) (s : List ℕ) : Type 0 where
@@ -57,9 +57,9 @@ pub record BlockLaws (qp : ℕ) (n : List ℕ) (f : ℕ) (s : List ℕ) : Type 0
   -- sixteen levels, each in 16 bits, that rescale into 16 bits
   pub sixteen : length (codedLevels qp (mask n f) s) ≡ 16
   pub fits : (k : ℕ) → SFits w16 (getD (codedLevels qp (mask n f) s) k (pos 0))
-  pub in-range : firstWide (inZigzag (numbersOf qp (codedLevels qp (mask n f) s))) ≡ 16
+  pub in-range : firstWide (inZigzag (rescaledOf qp (codedLevels qp (mask n f) s))) ≡ 16
   -- what is rebuilt is what the mode's prediction and the levels give: sixteen bytes
-  pub rebuilds : codedSamples qp (mask n f) s ≡ samplesOf (rules.samplesOf (rules.predicted (mask n f) (codedMode (mask n f) s))) (numbersOf qp (codedLevels qp (mask n f) s))
+  pub rebuilds : codedSamples qp (mask n f) s ≡ rebuiltSamples (rules.samplesOf (rules.predicted (mask n f) (codedMode (mask n f) s))) (rescaledOf qp (codedLevels qp (mask n f) s))
   pub made-sixteen : length (codedSamples qp (mask n f) s) ≡ 16
   pub made-bytes : Bytes (codedSamples qp (mask n f) s)
 
@@ -77,7 +77,7 @@ block-laws qp n f s legal long near own =
       sixteen = length-zigzag _;
       fits = λ k. fits (here (each-at 1632 levels (own-levels-in-range qp legal x small .levels) k)) tt;
       in-range = own-numbers-fit qp legal x small;
-      rebuilds = ap (λ (p : List ℕ). samplesOf p (numbersOf qp levels)) e;
+      rebuilds = ap (λ (p : List ℕ). rebuiltSamples p (rescaledOf qp levels)) e;
       made-sixteen = length-samples _ _;
       made-bytes = bytes-samples _ _;
     }

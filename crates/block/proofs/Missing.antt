@@ -22,7 +22,7 @@ use Rattle.predict.specs.Rules as rules
 use Rattle.predict.specs.Choice.{at, chosen}
 use Rattle.predict.specs.Entry.{bestSamples}
 use Rattle.residual.specs.Entry.{Rebuilds, rebuildTests}
-use Rattle.residual.specs.Rebuild.{samplesOf, numbersOf}
+use Rattle.residual.specs.Rebuild.{rebuiltSamples, rescaledOf}
 use Rattle.residual.proofs.Own.{own-levels-pass}
 use Rattle.block.specs.Entry.{Codes, codeTests}
 use Rattle.block.specs.declared.Coded.{Coded}
@@ -55,4 +55,4 @@ rebuilds qp f n s l o m sad l′ o′ p near own out room =
     let is-o : o′ ≡ codedSamples qp (mask n f) s = p .rebuilt ∙ rw v in
     let e : chain (rebuildTests qp (rules.samplesOf (rules.predicted (mask n f) m)) l′ out) ≡ pass =
     rw (sym y, is-l) (own-levels-pass qp legal (residualOf s (predictionOf (mask n f) s)) (own-residual-small n f s near own) (predictionOf (mask n f) s) out (chosen-sixteen n f s few) room) in
-    record { says = says (sym e); wrote = simp e (is-o ∙ (λ i. samplesOf (y i) (numbersOf qp (sym is-l i)))) }
+    record { says = says (sym e); wrote = simp e (is-o ∙ (λ i. rebuiltSamples (y i) (rescaledOf qp (sym is-l i)))) }

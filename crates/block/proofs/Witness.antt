@@ -18,7 +18,7 @@ use Rattle.residual.specs.Levels.{quantized}
 use Rattle.residual.specs.Order.{inZigzag, inPlaces}
 use Rattle.residual.specs.Quantize.{levelBy}
 use Rattle.residual.specs.Rescale.{scaledBy, rescaled}
-use Rattle.residual.specs.Rebuild.{added, samplesOf}
+use Rattle.residual.specs.Rebuild.{added, rebuiltSamples}
 use Rattle.block.specs.Block.{residualOf, codedLevels, codedSamples}
 use Rattle.block.specs.Entry.{codeTests}
 
@@ -37,7 +37,7 @@ example-levels = refl
 
 -- 136 and not 138: what is rebuilt is not the original
 pub rebuilt-is-not-original : codedSamples 28 (mask (replicate 13 77) 0) (replicate 16 138) ≡ replicate 16 136
-unfolding chosen bestOf fold sad total predicted bitOf grid tab residualOf forward quantized levelBy inZigzag inPlaces scaledBy rescaled inverse added samplesOf clip
+unfolding chosen bestOf fold sad total predicted bitOf grid tab residualOf forward quantized levelBy inZigzag inPlaces scaledBy rescaled inverse added rebuiltSamples clip
 rebuilt-is-not-original = refl
 
 -- "All neighbours and all samples 100: mode 0, SAD 0"

@@ -8,7 +8,7 @@ use Rattle.predict.specs.Samples.{Round}
 use Rattle.predict.specs.Choice.{Best, nothing, at, chosen}
 use Rattle.predict.specs.Entry.{bestSamples}
 use Rattle.residual.specs.Levels.{levelsOf}
-use Rattle.residual.specs.Rebuild.{numbersOf, samplesOf}
+use Rattle.residual.specs.Rebuild.{rescaledOf, rebuiltSamples}
 
 -- the residual is what the prediction lacks: "sample = prediction + residual"
 unfoldable pub residualOf : List ℕ → List ℕ → List ℤ
@@ -32,4 +32,4 @@ codedLevels qp round samples = levelsOf qp (residualOf samples (predictionOf rou
 
 -- the samples that a decoder rebuilds from that prediction and those levels
 abbrev pub codedSamples : ℕ → Round → List ℕ → List ℕ
-codedSamples qp round samples = samplesOf (predictionOf round samples) (numbersOf qp (codedLevels qp round samples))
+codedSamples qp round samples = rebuiltSamples (predictionOf round samples) (rescaledOf qp (codedLevels qp round samples))

@@ -33,7 +33,7 @@ use Rattle.transform.specs.Matrix.{Matrix, raster}
 use Rattle.transform.proofs.Bounds.{forward-within}
 use Rattle.residual.specs.Levels.{quantized, levelsOf}
 use Rattle.residual.specs.Quantize.{levelOf}
-use Rattle.residual.specs.Rebuild.{added, numbersOf, samplesOf}
+use Rattle.residual.specs.Rebuild.{added, rescaledOf, rebuiltSamples}
 use Rattle.residual.specs.Rescale.{scaledBy, mfAt, vAt, rescaled}
 use Rattle.residual.proofs.Own.{own-numbers}
 use Rattle.block.specs.Block.{residualOf, predictionOf, codedSamples}
@@ -54,7 +54,7 @@ divided n a b c P ta tb tc h t = omega arith
 module _ (qp : ℕ) (x : List ℤ) where
   -- a rescaled number that the decoder has, by its coefficient
   number-at : (place : ℕ) → place < 16
-      → getD (numbersOf qp (levelsOf qp x)) place (pos 0) ≡ scaledBy 0 (periodOf qp) (levelOf 0 (periodOf qp) (mfAt qp place) (getD (forward x) place (pos 0)) *ℤ pos (vAt qp place))
+      → getD (rescaledOf qp (levelsOf qp x)) place (pos 0) ≡ scaledBy 0 (periodOf qp) (levelOf 0 (periodOf qp) (mfAt qp place) (getD (forward x) place (pos 0)) *ℤ pos (vAt qp place))
   unfolding quantized rescaled
   number-at place h =
       ap (λ (l : List ℤ). getD l place (pos 0)) (own-numbers qp x)
@@ -64,7 +64,7 @@ module _ (qp : ℕ) (x : List ℤ) where
 
   -- the rescaled numbers against the coefficients' shares
   errors : Matrix
-  errors = λ k l. pos numberScale *ℤ raster 4 (numbersOf qp (levelsOf qp x)) k l -ℤ pos shareScale *ℤ sharesOf (forward x) k l
+  errors = λ k l. pos numberScale *ℤ raster 4 (rescaledOf qp (levelsOf qp x)) k l -ℤ pos shareScale *ℤ sharesOf (forward x) k l
 
   module _ (small : Each 255 x) where
     errors-within : (k l : ℕ) → k < 4 → l < 4 → Within (errorOf (remainderOf qp) (periodOf qp) (classAtPlace (4 * k + l))) (errors k l)
@@ -77,17 +77,17 @@ module _ (qp : ℕ) (x : List ℤ) where
         (sym (number-at place h))
         (number-near (classAtPlace place) (remainderOf qp) (periodOf qp) (getD (forward x) place (pos 0)) (forward-within x small place h))
 
-    pub residual-near : (place : ℕ) → place < 16 → 384 * natAbs (getD (inverse (numbersOf qp (levelsOf qp x))) place (pos 0) -ℤ getD x place (pos 0)) ≤ promiseOf qp
+    pub residual-near : (place : ℕ) → place < 16 → 384 * natAbs (getD (inverse (rescaledOf qp (levelsOf qp x))) place (pos 0) -ℤ getD x place (pos 0)) ≤ promiseOf qp
     unfolding errors
     residual-near place h =
         let r = remainderOf qp in
         let p = periodOf qp in
         let i = place / 4 in
         let j = place % 4 in
-        let d = numbersOf qp (levelsOf qp x) in
-        let back = getD (inverse (numbersOf qp (levelsOf qp x))) place (pos 0) in
+        let d = rescaledOf qp (levelsOf qp x) in
+        let back = getD (inverse (rescaledOf qp (levelsOf qp x))) place (pos 0) in
         let own = getD x place (pos 0) in
-        let unrounded = bothSides Basis (raster 4 (numbersOf qp (levelsOf qp x))) (place / 4) (place % 4) in
+        let unrounded = bothSides Basis (raster 4 (rescaledOf qp (levelsOf qp x))) (place / 4) (place % 4) in
         let again : raster 4 x i j ≡ own = ap (λ (k : ℕ). getD x k (pos 0)) (div-add-mod place 4) in
         let through : bothSides Basis errors i j ≡ pos numberScale *ℤ unrounded -ℤ pos shareScale *ℤ (pos 1600 *ℤ own) =
         both-sides-linear Basis (raster 4 d) (sharesOf (forward x)) (pos numberScale) (pos shareScale) i j
@@ -108,7 +108,7 @@ module _ (qp : ℕ) (x : List ℤ) where
 -- ---- samples
 
 pub rebuilt-clipped : (prediction : List ℕ) (d : List ℤ) (place : ℕ) → place < 16 → rebuiltAt prediction d place ≡ pos (clip 255 (unclippedAt prediction d place))
-unfolding samplesOf added
+unfolding rebuiltSamples added
 rebuilt-clipped prediction d place h = ap pos (getD-tab 16 (λ k. clip 255 (unclippedAt prediction d k)) place 0 h)
 
 residual-at : (original prediction : List ℕ) (place : ℕ) → place < 16 → getD (residualOf original prediction) place (pos 0) ≡ pos (getD original place 0) -ℤ pos (getD prediction place 0)

@@ -24,7 +24,7 @@ use Rattle.refusal.proofs.Same.{says-same}
 use Rattle.quantizer.specs.Range.{tests}
 use Rattle.residual.specs.Entry.{rebuildTests}
 use Rattle.residual.specs.Levels.{levelsOf}
-use Rattle.residual.specs.Rebuild.{numbersOf, samplesOf}
+use Rattle.residual.specs.Rebuild.{rescaledOf, rebuiltSamples}
 use Rattle.residual.proofs.rebuild.Kinds as rebuild
 use Rattle.residual.proofs.rebuild.Reads as rebuild-reads
 use Rattle.block.specs.Block.{residualOf}
@@ -56,9 +56,9 @@ pub rebuild-near : (κs : Lfts 3) (a : Dens κs rebuild.ps) (r : resT rebuild.r 
 rebuild-near κs a r e p done original own near sent place l =
     let prediction = now (a .1 .0) in
     let passed : chain (rebuildTests (a .0) prediction (now (a .1 .1 .0)) (now (a .1 .1 .1 .0))) ≡ pass = sym (says-same (p .says)) ∙ done in
-    let is : now (e .1 .1 .1 .0) ≡ samplesOf prediction (numbersSent (a .0) original prediction) =
+    let is : now (e .1 .1 .1 .0) ≡ rebuiltSamples prediction (numbersSent (a .0) original prediction) =
     holds-new (now (a .1 .1 .1 .0)) passed (p .wrote)
-    ∙ ap (λ (levels : List ℤ). samplesOf prediction (numbersOf (a .0) levels)) sent in
+    ∙ ap (λ (levels : List ℤ). rebuiltSamples prediction (rescaledOf (a .0) levels)) sent in
     subst (λ (m : List ℕ). 384 * distanceAt original place (pos (getD m place 0)) ≤ promiseOf (a .0)) (sym is) (distance (a .0) original prediction own near place l .after)
 
 pub code-block-near : (κs : Lfts 4) (a : Dens κs code-block.ps) (r : resT code-block.r κs .Denot) (e : AtExit (endedOf 4 code-block.ps code-block.r) κs)

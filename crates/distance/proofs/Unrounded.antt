@@ -22,7 +22,7 @@ use Rattle.whole.proofs.Sums.{sum-ext, sum-scale, same-below}
 use Rattle.quantizer.specs.Tables.{classAtPlace}
 use Rattle.quantizer.specs.declared.Class.{Class}
 use Rattle.quantizer.specs.declared.Class.the-variants as class
-use Rattle.transform.specs.Block.{through}
+use Rattle.transform.specs.Quads.{through}
 use Rattle.transform.specs.Forward.{C, forward}
 use Rattle.transform.specs.Inverse.{half, back, rounded, inverse}
 use Rattle.transform.specs.Matrix.{Line, Matrix, product, transposed, raster, eachRow, eachColumn}

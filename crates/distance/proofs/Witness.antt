@@ -10,7 +10,7 @@ use Rattle.transform.specs.Inverse.{inverse}
 use Rattle.residual.specs.Levels.{quantized}
 use Rattle.residual.specs.Order.{inZigzag, inPlaces}
 use Rattle.residual.specs.Quantize.{levelBy}
-use Rattle.residual.specs.Rebuild.{added, samplesOf}
+use Rattle.residual.specs.Rebuild.{added, rebuiltSamples}
 use Rattle.residual.specs.Rescale.{scaledBy, rescaled}
 use Rattle.block.specs.Block.{residualOf}
 use Rattle.distance.specs.Distance.{promiseOf, numbersSent, rebuiltAt, distanceAt}
@@ -33,5 +33,5 @@ abbrev grey : List ℕ
 grey = replicate 16 128
 
 pub promise-met : distanceAt farOff 2 (rebuiltAt grey (numbersSent 33 farOff grey) 2) ∷ samplesOff 33 ∷ [] ≡ 72 ∷ 72 ∷ []
-unfolding tab clip forward inverse quantized inZigzag inPlaces levelBy added samplesOf scaledBy rescaled residualOf
+unfolding tab clip forward inverse quantized inZigzag inPlaces levelBy added rebuiltSamples scaledBy rescaled residualOf
 promise-met = refl

@@ -8,7 +8,7 @@ use Rattle.quantizer.specs.Tables.{vOf}
 use Rattle.quantizer.specs.declared.Class.the-variants.{A, B, C}
 use Rattle.transform.specs.Inverse.{inverse}
 use Rattle.residual.specs.Levels.{levelsOf}
-use Rattle.residual.specs.Rebuild.{numbersOf, samplesOf}
+use Rattle.residual.specs.Rebuild.{rescaledOf, rebuiltSamples}
 use Rattle.block.specs.Block.{residualOf}
 
 -- "16a+24c+9b", "a, b and c being that remainder's V"
@@ -21,7 +21,7 @@ promiseOf qp = spreadOf (remainderOf qp) * 2 ^ periodOf qp + 384
 
 -- the rescaled numbers of the levels that are sent for an original and its prediction
 abbrev pub numbersSent : ℕ → List ℕ → List ℕ → List ℤ
-numbersSent qp original prediction = numbersOf qp (levelsOf qp (residualOf original prediction))
+numbersSent qp original prediction = rescaledOf qp (levelsOf qp (residualOf original prediction))
 
 -- "before the clip": prediction + residual
 abbrev pub unclippedAt : List ℕ → List ℤ → ℕ → ℤ
@@ -29,7 +29,7 @@ unclippedAt prediction d place = pos (getD prediction place 0) +ℤ getD (invers
 
 -- "and after it": the rebuilt sample
 abbrev pub rebuiltAt : List ℕ → List ℤ → ℕ → ℤ
-rebuiltAt prediction d place = pos (getD (samplesOf prediction d) place 0)
+rebuiltAt prediction d place = pos (getD (rebuiltSamples prediction d) place 0)
 
 -- the distance of a number from the original sample
 abbrev pub distanceAt : List ℕ → ℕ → ℤ → ℕ

@@ -6,6 +6,7 @@ use Prim.Native.Nat.{ℕ}
 use lib.Ieee.{Float}
 use lib.IntN.{ℤ}
 use lib.ListN.{length}
+use Rattle.lists.specs.Parts.{over}
 use Rattle.lists.specs.Chain.{chain, written}
 use Rattle.predict.specs.Choice.{chosen}
 use Rattle.predict.specs.Entry.{predictTests, chooseTests, bestSamples}
@@ -15,7 +16,7 @@ use Rattle.transform.specs.Entry as transform
 use Rattle.transform.specs.Forward.{forward}
 use Rattle.residual.specs.Entry.{levelsTests, rebuildTests, withDcTests}
 use Rattle.residual.specs.Levels.{levelsOf}
-use Rattle.residual.specs.Rebuild.{samplesOf, numbersOf, numbersWithDc}
+use Rattle.residual.specs.Rebuild.{rebuiltSamples, rescaledOf, rescaledWithDc}
 use Rattle.dc.specs.Dc.{lumaLevels, lumaValues, chromaLevels, chromaValues}
 use Rattle.dc.specs.Entry.{lumaLevelsTests, lumaValuesTests, chromaLevelsTests, chromaValuesTests}
 use Rattle.quantizer.specs.Chroma.{chromaTests, chromaOf}
@@ -25,8 +26,8 @@ use Rattle.block.specs.Entry.{codeTests}
 use Rattle.distance.specs.Entry.{samplesOff}
 use Rattle.record.specs.Entry.{headTests, widthAt, heightAt}
 use Rattle.picture.specs.Plane.{layoutOf}
-use Rattle.plane.specs.Code.{codePlaneTests, codedFile, codedPlane, over}
-use Rattle.plane.specs.Decode.{decodeTests, layoutIn, decoded}
+use Rattle.plane.specs.Code.{codePlaneTests, codedFile, codedPlane}
+use Rattle.plane.specs.Decode.{decodeTests, decodedPlane}
 use Rattle.sheet.specs.Entry.{writeTests}
 use Rattle.sheet.specs.Means.{givenOf, areaOf}
 use Rattle.fleecebutton.specs.Word.{wordOf, choiceValue, sizeValue, sheetValue, Sends}
@@ -48,11 +49,11 @@ LevelsSends qp residual before w after = Sends (levelsTests qp residual before) 
 
 abbrev pub RebuildSends : (qp : ℕ) (prediction : List ℕ) (levels : List ℤ) (before : List ℕ) (w : ℕ) (after : List ℕ) → Type 0
 RebuildSends qp prediction levels before w after =
-    Sends (rebuildTests qp prediction levels before) 0 (samplesOf prediction (numbersOf qp levels)) before w after
+    Sends (rebuildTests qp prediction levels before) 0 (rebuiltSamples prediction (rescaledOf qp levels)) before w after
 
 abbrev pub RebuildWithDcSends : (qp : ℕ) (prediction : List ℕ) (dc : ℤ) (ac : List ℤ) (before : List ℕ) (w : ℕ) (after : List ℕ) → Type 0
 RebuildWithDcSends qp prediction dc ac before w after =
-    Sends (withDcTests qp prediction dc ac before) 0 (samplesOf prediction (numbersWithDc qp dc ac)) before w after
+    Sends (withDcTests qp prediction dc ac before) 0 (rebuiltSamples prediction (rescaledWithDc qp dc ac)) before w after
 
 abbrev pub LumaDcLevelsSends : (qp : ℕ) (dc before : List ℤ) (w : ℕ) (after : List ℤ) → Type 0
 LumaDcLevelsSends qp dc before w after = Sends (lumaLevelsTests qp dc before) 0 (lumaLevels qp dc) before w after
@@ -88,7 +89,7 @@ abbrev pub ReadHeadSends : (file : List ℕ) (w : ℕ) → Type 0
 ReadHeadSends file w = w ≡ wordOf (chain (headTests file)) (sizeValue (widthAt file) (heightAt file))
 
 abbrev pub DecodePlaneSends : (file before : List ℕ) (w : ℕ) (after : List ℕ) → Type 0
-DecodePlaneSends file before w after = Sends (decodeTests file before) 0 (decoded (layoutIn file) file) before w after
+DecodePlaneSends file before w after = Sends (decodeTests file before) 0 (decodedPlane file) before w after
 
 abbrev pub QualitySheetSends : (width height : ℕ) (original rebuilt map : List ℕ) (before : List Float) (w : ℕ) (after : List Float) → Type 0
 QualitySheetSends width height original rebuilt map before w after =

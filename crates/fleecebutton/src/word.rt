@@ -95,7 +95,7 @@ pub(crate) fn of_head(head: Head) -> u64
     ensures { λ r. ⌜ r ≡ wordOf (saidHead head) (sizeValue (widthOf head) (heightOf head)) ⌝ }
 {
     match head {
-        Head::Legal(width, height) => of_success((width + 256 * height) as u64),
+        Head::Legal(width, height, _, _) => of_success((width + 256 * height) as u64),
         Head::Refused(refusal) => of_refusal(refusal),
     }
 }

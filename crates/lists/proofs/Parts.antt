@@ -4,9 +4,9 @@
 --     Pasting: pasting-none, pasting-more, pasting-done                     stores from place a on, the others as they were
 --     copied                                                                a whole list copied over another
 --     parts-none, parts-more, parts-same                                    parts one behind the other; equal rules
---     parts-split, part-behind                                              what stands behind the first k
---     length-parts, parts-at, parts-to                                      where all parts are of one size
---     part-home, part-read                                                  a lent part that comes home, as a paste; read again
+--     parts-split, parts-front, part-behind                                 what stands before part k and behind it
+--     length-parts, parts-at                                                where all parts are of one size
+--     part-home, part-read, front-home                                      a lent part that comes home, as a paste; read again; at the front
 -- Assumes nothing.
 use mathlib.Core.Path.{_≡_, refl, sym, ap, _∙_}
 use mathlib.Core.List.{List, [], _∷_, _++_, append-assoc, append-nil}
@@ -18,7 +18,7 @@ use native.Mathlib.Omega.{arith}
 use borrow.Rule.Slice.PartMut.{putMid, postOf, post-is}
 use lib.ListN.{length, set, take, drop, getD, length-append, length-set, length-drop, drop-of-length-le}
 use lib.Seq.{take-suc-set, take-all, take-length, take-at, take-append-le, drop-at, drop-append-le, length-take-le, sets, sets-eq, length-sets, paste, paste-zero, paste-suc}
-use Rattle.lists.specs.Parts.{parts, pasted}
+use Rattle.lists.specs.Parts.{parts, pasted, over}
 
 module _ {A : Type 0} where
   -- ---- growing
@@ -114,11 +114,14 @@ module _ {A : Type 0} where
       let z : k + suc d ≡ suc (k + d) = omega arith in
       rw z (ap (λ (l : List A). l ++ f (k + d)) (parts-split k d f) ∙ append-assoc (parts k f) (parts d (λ i. f (k + i))) (f (k + d)))
 
-  pub parts-to : (size : ℕ) (f : ℕ → List A) (n m : ℕ) → ((k : ℕ) → k < n → length (f k) ≡ size) → m ≤ n → take (size * m) (parts n f) ≡ parts m f
-  parts-to size f n m e h =
+  -- a head and the first m parts stand before the others
+  pub parts-front : (head : List A) (n m : ℕ) (f : ℕ → List A) → m ≤ n → take (length (head ++ parts m f)) (head ++ parts n f) ≡ head ++ parts m f
+  parts-front head n m f h =
       let z : n ≡ m + (n - m) = omega arith in
-      ap (λ (i : ℕ). take (size * m) (parts i f)) z ∙ ap (take (size * m)) (parts-split m (n - m) f)
-      ∙ take-at (parts m f) (parts (n - m) (λ i. f (m + i))) (size * m) (length-parts size f m (λ k l. e k (omega arith)))
+      let others = parts (n - m) (λ i. f (m + i)) in
+      let e : head ++ parts n f ≡ (head ++ parts m f) ++ parts (n - m) (λ i. f (m + i)) =
+      ap (λ (i : ℕ). head ++ parts i f) z ∙ ap (λ (l : List A). head ++ l) (parts-split m (n - m) f) ∙ sym (append-assoc head (parts m f) others) in
+      ap (take (length (head ++ parts m f))) e ∙ take-at (head ++ parts m f) others (length (head ++ parts m f)) refl
 
   -- behind a head and the first k parts stands part k
   pub part-behind : (head : List A) (n k : ℕ) (f : ℕ → List A) → k < n
@@ -142,6 +145,10 @@ module _ {A : Type 0} where
       sym (append-assoc (take a d) w (postOf a (e - a) d))
       ∙ ap (λ (t : List A). (take a d ++ w) ++ t) (post-is a e d h)
       ∙ ap (λ (n : ℕ). (take a d ++ w) ++ drop n d) z
+
+  -- at the front it goes over what stood there
+  pub front-home : (d w : List A) (e : ℕ) → length w ≡ e - 0 → putMid 0 (e - 0) d w ≡ over w d
+  front-home d w e l = let z : 0 + length w ≡ length w = omega arith in part-home d w 0 e (omega arith) l ∙ ap (λ (n : ℕ). w ++ drop n d) z
 
   pub part-read : (d w : List A) (a e : ℕ) → a ≤ length d → length w ≡ e - a → take (e - a) (drop a (putMid a (e - a) d w)) ≡ w
   part-read d w a e h l =

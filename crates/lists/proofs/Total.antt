@@ -1,4 +1,5 @@
 -- The loop that adds f k in turn k, each at most b, so that the sum is known to fit.
+--     total-same     equal numbers
 --     Totalling: totalling-none, totalling-more, totalling-done
 --     total-low, term-low     a sum of terms that are at most b; each term is at most the sum
 -- Assumes nothing.
@@ -9,6 +10,11 @@ use native.Mathlib.Nat.{not-suc-le-zero, eq-or-lt-of-le, le-of-suc-le-suc}
 use native.Mathlib.Numerals.{add-one}
 use native.Mathlib.Omega.{arith}
 use Rattle.lists.specs.Total.{total}
+
+pub total-same : (n : ℕ) (f g : ℕ → ℕ) → ((k : ℕ) → k < n → f k ≡ g k) → total n f ≡ total n g
+unfolding total
+total-same zero f g h = refl
+total-same (suc n) f g h = rw (total-same n f g (λ k l. h k (omega arith)), h n (omega arith))
 
 pub record Totalling (n : ℕ) (f : ℕ → ℕ) (b sum k : ℕ) : Type 0 where
   pub below : k ≤ n

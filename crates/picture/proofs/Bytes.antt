@@ -1,6 +1,6 @@
 -- Planes of bytes: a block's neighbours and its samples are bytes, and a plane stays one of bytes while blocks of bytes are stored into it.
 --     length-gathered, gathered-bytes, block-bytes, stored-bytes
---     MakesBytes: turn-bytes, turns-bytes, macroblocks-bytes     where each block is made of bytes into bytes
+--     MakesBytes: turn-bytes, turns-bytes     where each block of n by n is made of bytes into bytes
 -- Assumes nothing.
 use mathlib.Core.Path.{_≡_}
 use mathlib.Core.List.{List}
@@ -12,9 +12,9 @@ use Rattle.lists.proofs.Bytes.{Bytes, byte-cond, bytes-tab, bytes-grid, bytes-s
 use Rattle.lists.proofs.Fold.{fold-keeps}
 use Rattle.lists.proofs.Tab.{length-tab}
 use Rattle.picture.specs.declared.Layout.{Layout}
-use Rattle.picture.specs.Order.{blockColumn, blockRow}
+use Rattle.picture.specs.Order.{covers, blockColumn, blockRow}
 use Rattle.picture.specs.Presence.{presentAt}
-use Rattle.picture.specs.Plane.{stride, samplePlace, blockAt, stored, neighbour, gathered, turn}
+use Rattle.picture.specs.Plane.{stride, samplePlace, blockAt, stored, neighbour, gathered, turn, firstTurns}
 
 module _ (n : ℕ) (l : Layout) (m b : ℕ) (plane : List ℕ) where
   pub length-gathered : length (gathered n l m b plane) ≡ 3 * n + 1
@@ -34,21 +34,19 @@ module _ (n s x y : ℕ) where
   unfolding stored
   stored-bytes block plane own bytes = bytes-stores (n * n) (samplePlace n s x y) (λ k. getD block k 0) plane (λ k h. own .byte k) bytes
 
--- of thirteen bytes it makes bytes
-abbrev pub MakesBytes : (make : ℕ → ℕ → List ℕ → List ℕ) → Type 0
-MakesBytes make = (m b : ℕ) (neighbours : List ℕ) → length neighbours ≡ 13 → Bytes neighbours → Bytes (make m b neighbours)
+-- of the neighbours of n by n samples, which are bytes, it makes bytes
+abbrev pub MakesBytes : (n : ℕ) (make : ℕ → ℕ → List ℕ → List ℕ) → Type 0
+MakesBytes n make = (m b : ℕ) (neighbours : List ℕ) → length neighbours ≡ 3 * n + 1 → Bytes neighbours → Bytes (make m b neighbours)
 
-module _ (make : ℕ → ℕ → List ℕ → List ℕ) (makes : MakesBytes make) (l : Layout) where
-  pub turn-bytes : (m b : ℕ) (plane : List ℕ) → Bytes plane → Bytes (turn make l m b plane)
+module _ (n : ℕ) (make : ℕ → ℕ → List ℕ → List ℕ) (makes : MakesBytes n make) (l : Layout) where
+  pub turn-bytes : (m b : ℕ) (plane : List ℕ) → Bytes plane → Bytes (turn n make l m b plane)
   unfolding turn
   turn-bytes m b plane bytes =
-      stored-bytes 4 (stride l) (blockColumn l m b) (blockRow l m b) (make m b (gathered 4 l m b plane)) plane
-      (makes m b (gathered 4 l m b plane) (length-gathered 4 l m b plane) (gathered-bytes 4 l m b plane bytes)) bytes
+      stored-bytes n (stride 16 l) (blockColumn l m b) (blockRow l m b) (make m b (gathered n l m b plane)) plane
+      (makes m b (gathered n l m b plane) (length-gathered n l m b plane) (gathered-bytes n l m b plane bytes)) bytes
 
-  pub turns-bytes : (m n : ℕ) (plane : List ℕ) → Bytes plane → Bytes (fold n (turn make l m) plane)
-  turns-bytes m n plane bytes = fold-keeps (λ k p. Bytes p) n (turn make l m) plane bytes (λ k h e. turn-bytes m k (fold k (turn make l m) plane) e)
-
-  pub macroblocks-bytes : (n : ℕ) (plane : List ℕ) → Bytes plane → Bytes (fold n (λ m. fold 16 (turn make l m)) plane)
-  macroblocks-bytes n plane bytes =
-      fold-keeps (λ k p. Bytes p) n (λ m. fold 16 (turn make l m)) plane bytes
-      (λ k h e. turns-bytes k 16 (fold k (λ m. fold 16 (turn make l m)) plane) e)
+  pub turns-bytes : (m k : ℕ) (plane : List ℕ) → Bytes plane → Bytes (firstTurns n make l m k plane)
+  unfolding firstTurns
+  turns-bytes m k plane bytes =
+      fold-keeps (λ j p. Bytes p) k (λ j. turn n make l m (covers n * j)) plane bytes
+      (λ j h e. turn-bytes m (covers n * j) (fold j (λ i. turn n make l m (covers n * i)) plane) e)

@@ -2,9 +2,11 @@ pub mod Around
 pub mod Blocks
 pub mod Byte
 pub mod Bytes
+pub mod Macroblocks
 pub mod Owner
 pub mod Plane
 pub mod Presence
 pub mod Start
+pub mod Steps
 pub mod Unique
 pub mod Witness

@@ -18,9 +18,9 @@ use Rattle.lists.specs.Tab.{grid, inRaster}
 use Rattle.lists.proofs.Stores.{length-stores, getD-stores-at, getD-stores-off, stores-same}
 use Rattle.lists.proofs.Tab.{row-below, column-below, tab-of, tab-same}
 use Rattle.picture.specs.declared.Layout.{Layout}
-use Rattle.picture.specs.Order.{Sound, Among, rowIn, blockColumn, blockRow}
-use Rattle.picture.specs.Plane.{stride, samplesOf, sampleAt, blockAt, samplePlace, stored}
-use Rattle.picture.proofs.Blocks.{inner-facts}
+use Rattle.picture.specs.Order.{Sound, Among, Starts, rowIn, blockColumn, blockRow}
+use Rattle.picture.specs.Plane.{stride, planeLength, sampleAt, blockAt, samplePlace, stored}
+use Rattle.picture.proofs.Blocks.{stands, starts-four}
 
 -- the n by n samples from column x of row y on lie within a plane of that length, in rows of s
 pub record Room (n len s x y : ℕ) : Type 0 where
@@ -68,21 +68,21 @@ module _ (n s x y : ℕ) (block plane : List ℕ) where
   read-stored e r = tab-of (n * n) (inRaster n (λ i j. sampleAt s (stored n s x y block plane) (x + i) (y + j))) block 0 e (λ k h. sample-stored r k h)
 
 -- a block of the picture lies in its plane
-pub room-of : (l : Layout) (m b : ℕ) → 0 < l .width → m < l .width * l .height → b < 16 → Room 4 (samplesOf l) (stride l) (blockColumn l m b) (blockRow l m b)
+pub room-of : (n : ℕ) (l : Layout) (m b : ℕ) → 0 < l .width → m < l .width * l .height → Starts n b → Room n (planeLength 16 l) (stride 16 l) (blockColumn l m b) (blockRow l m b)
 unfolding blockColumn blockRow
-room-of l m b some among block =
-    let f = inner-facts b block in
+room-of n l m b some among start =
+    let f = stands n b start in
     let r : m / l .width < l .height = div-lt-iff-lt-mul some .1 (omega arith) in
     record {
       wide = omega (arith, f .thin, mod-lt m some);
-      high = omega (arith, mul-le-mul-right (16 * l .width) (let e : 16 * (m / l .width) + 4 * rowIn b + 4 ≤ 16 * l .height = omega (arith, f .low) in e));
+      high = omega (arith, mul-le-mul-right (16 * l .width) (let e : 16 * (m / l .width) + 4 * rowIn b + n ≤ 16 * l .height = omega (arith, f .low) in e));
     }
 
-pub room-among : {l : Layout} {m b : ℕ} → Among l m b → Room 4 (samplesOf l) (stride l) (blockColumn l m b) (blockRow l m b)
-room-among {l} {m} {b} a = room-of l m b (a .sound .some) (a .macroblock) (a .block)
+pub room-among : {l : Layout} {m b : ℕ} → Among l m b → Room 4 (planeLength 16 l) (stride 16 l) (blockColumn l m b) (blockRow l m b)
+room-among {l} {m} {b} a = room-of 4 l m b (a .sound .some) (a .macroblock) (starts-four b (a .block))
 
 -- no place of a plane is too large
-pub samples-fit : {l : Layout} → Sound l → samplesOf l ≤ 4194304
+pub samples-fit : {l : Layout} → Sound l → planeLength 16 l ≤ 4194304
 samples-fit {l} s = omega (arith, s .high, mul-le-mul-right (l .height) (s .wide))
 
 -- the places of a block, counted from its first
@@ -90,10 +90,10 @@ pub from-first : (s x y i j : ℕ) → (y + j) * s + (x + i) ≡ y * s + x + j *
 from-first s x y i j = omega arith
 
 module _ {l : Layout} {m b : ℕ} (a : Among l m b) where
-  pub spot-in : (i j : ℕ) → i < 4 → j < 4 → blockRow l m b * stride l + blockColumn l m b + j * stride l + i < samplesOf l
-  spot-in i j hi hj = rw (from-first (stride l) (blockColumn l m b) (blockRow l m b) i j) at (within (room-among a) i j hi hj)
+  pub spot-in : (i j : ℕ) → i < 4 → j < 4 → blockRow l m b * stride 16 l + blockColumn l m b + j * stride 16 l + i < planeLength 16 l
+  spot-in i j hi hj = rw (from-first (stride 16 l) (blockColumn l m b) (blockRow l m b) i j) at (within (room-among a) i j hi hj)
 
-  pub first-in : blockRow l m b * stride l + blockColumn l m b < samplesOf l
+  pub first-in : blockRow l m b * stride 16 l + blockColumn l m b < planeLength 16 l
   first-in = omega (arith, spot-in 0 0 (omega arith) (omega arith))
 
 -- a block that is read, and a plane with a block stored, by those places

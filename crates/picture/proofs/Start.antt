@@ -1,124 +1,158 @@
--- A picture that is rebuilt block after block, over any way `make` of making a block of its neighbours: what stood in the plane at the
--- start changes nothing. `make` is abstract here, and needs no law: the decoder and the coder put their own in its place.
+-- The turns of blocks of n by n are steps of their macroblock.
+-- `make` is any function, and needs no law: decoder and coder put their own in its place.
 --     gathered-missing         the place of a missing neighbour says nothing of the plane
---     seen-same, gathered-same     planes alike up to a block show it the same neighbours
---     length-turn, length-turns, length-macroblocks     a plane keeps its length
---     turn-alike               a block's turn keeps two planes alike, up to it
---     turns-alike, macroblocks-alike     so do the first turns of a macroblock, and those of the first macroblocks
---     start-has-no-value       the picture after all turns is the same from any two planes of its length
+--     gathered-looks           the neighbours follow from the places that a block may see
+--     turn-step                a block's turn is a step, from its number over the 4x4 blocks that it covers
+--     turns-agree, turns-look  the first turns of a macroblock: planes that agreed where it sees do so then, and the next block sees the same
+--     turns-step               the turns of a macroblock's blocks of n by n are a step of it
+--     turns-eight, turns-sixteen, turns-four     these turns written out; those of 4 by 4 by the numbers of blocks
+--     turns-follow             two ways of making blocks that make the same of what each block sees
 -- Assumes nothing.
 use mathlib.Core.Path.{_≡_, refl, sym, ap, _∙_}
 use mathlib.Core.Bool.{Bool, true, false, cond}
 use mathlib.Core.List.{List}
 use Prim.Native.Nat.{ℕ, suc, _+_, _*_, _-_, _/_, _%_, _<_, _≤_}
-use native.Mathlib.Nat.{not-suc-le-zero}
+use native.Mathlib.Nat.{mul-suc, mul-zero, one-mul}
 use native.Mathlib.Omega.{arith}
-use lib.Arith.{digits-lt, digits-div, digits-mod}
+use lib.Arith.{digits-lt}
+use lib.Dec.{eqb, eqb→eq}
 use lib.ListN.{length, getD}
 use Rattle.lists.specs.Fold.{fold}
-use Rattle.lists.proofs.Alike.{Alike, Steps, step-alike, start-forgotten}
-use Rattle.lists.proofs.Fold.{fold-keeps, fold-flat, fold-along}
+use Rattle.lists.proofs.Alike.{Agree, Looks, Also, Step, agree-less, step-sees, step-by, step-agree, step-fold}
+use Rattle.lists.proofs.Fold.{fold-follow}
 use Rattle.lists.proofs.Tab.{tab-same, getD-tab}
 use Rattle.picture.specs.declared.Layout.{Layout}
-use Rattle.picture.specs.Order.{blockColumn, blockRow, orderOf}
+use Rattle.picture.specs.Order.{countOf, Size, Starts, covers, blockCount, blockColumn, blockRow, orderOf}
 use Rattle.picture.specs.Presence.{neighbourColumn, neighbourRow, presentAt}
-use Rattle.picture.specs.Plane.{stride, samplesOf, sampleAt, neighbour, gathered, turn, allTurns}
-use Rattle.picture.proofs.Owner.{ownerOf, owner-lt, others-kept, own-stored}
+use Rattle.picture.specs.Plane.{stride, planeLength, sampleAt, withBlock, neighbour, gathered, turn, firstTurns, turns}
+use Rattle.picture.proofs.Blocks.{every-size, stands, starts-turn}
+use Rattle.picture.proofs.Macroblocks.{SeenBy, SeenFrom, seen-from, neighbourPlace, neighbour-seen}
+use Rattle.picture.proofs.Owner.{ownerOf, macroblockOwning, order-macroblock, others-kept, own-stored}
 use Rattle.picture.proofs.Plane.{length-stored}
-use Rattle.picture.proofs.Presence.{Present, present-is}
+use Rattle.picture.proofs.Steps.{MacroblockStep, LooksFrom}
+use Rattle.picture.proofs.Presence.{present-is}
 
--- two planes of the picture that agree in all blocks before that number
-abbrev pub AlikeTo : Layout → (number : ℕ) → (p q : List ℕ) → Type 0
-AlikeTo l number p q = Alike 0 (ownerOf l) (samplesOf l) number p q
+-- ---- what a block sees
 
 -- a missing neighbour has no value: what stands in its place is the same in every plane
 pub gathered-missing : (n : ℕ) (l : Layout) (m b : ℕ) (p : List ℕ) (k : ℕ) → k < 3 * n + 1 → presentAt n l m b k ≡ false → getD (gathered n l m b p) k 0 ≡ 0
 unfolding gathered neighbour
 gathered-missing n l m b p k h e = getD-tab (3 * n + 1) (neighbour n l m b p) k 0 h ∙ rw e
 
--- a sample that is present is in an earlier block
-pub seen-same : (l : Layout) (number X Y : ℕ) (p q : List ℕ) → AlikeTo l number p q → Present l number X Y
-    → sampleAt (stride l) p (X - 1) (Y - 1) ≡ sampleAt (stride l) q (X - 1) (Y - 1)
-seen-same l number X Y p q a f =
-    let x : X - 1 < 16 * l .width = omega (arith, f .left, f .right) in
-    let y : Y - 1 < 16 * l .height = omega (arith, f .up, f .down) in
-    let d = digits-lt {q = Y - 1} {m = 16 * l .height} {r = X - 1} {c = 16 * l .width} y x in
-    a .agree ((Y - 1) * (16 * l .width) + (X - 1)) (omega arith) (rw (digits-mod (Y - 1) x, digits-div (Y - 1) x) (f .earlier))
-
-pub gathered-same : (n : ℕ) (l : Layout) (m b : ℕ) (p q : List ℕ) → AlikeTo l (orderOf m b) p q → gathered n l m b p ≡ gathered n l m b q
+-- neighbours look only at places that are seen, if every present one is
+gathered-from : (n : ℕ) (l : Layout) (m b : ℕ) (sees : ℕ → Type 0) → ((k : ℕ) → k < 3 * n + 1 → presentAt n l m b k ≡ true → sees (neighbourPlace n l m b k))
+    → Looks 0 (planeLength 16 l) sees (gathered n l m b)
 unfolding gathered neighbour presentAt
-gathered-same n l m b p q a = tab-same (3 * n + 1) _ _ (λ k h. by-case k (presentAt n l m b k) refl)
+gathered-from n l m b sees see p q a = tab-same (3 * n + 1) _ _ (λ k h. by-case k h (presentAt n l m b k) refl)
   where
-    by-case : (k : ℕ) (t : Bool) → presentAt n l m b k ≡ t
-        → cond t (sampleAt (stride l) p (neighbourColumn n (blockColumn l m b) k - 1) (neighbourRow n (blockRow l m b) k - 1)) 0
-        ≡ cond t (sampleAt (stride l) q (neighbourColumn n (blockColumn l m b) k - 1) (neighbourRow n (blockRow l m b) k - 1)) 0
-    by-case k false e = refl
-    by-case k true e =
-        seen-same l (orderOf m b) (neighbourColumn n (blockColumn l m b) k) (neighbourRow n (blockRow l m b) k) p q a (present-is _ _ _ _ e)
+    by-case : (k : ℕ) → k < 3 * n + 1 → (t : Bool) → presentAt n l m b k ≡ t
+        → cond t (sampleAt (stride 16 l) p (neighbourColumn n (blockColumn l m b) k - 1) (neighbourRow n (blockRow l m b) k - 1)) 0
+        ≡ cond t (sampleAt (stride 16 l) q (neighbourColumn n (blockColumn l m b) k - 1) (neighbourRow n (blockRow l m b) k - 1)) 0
+    by-case k h false e = refl
+    by-case k h true e =
+        let f = present-is l (orderOf m b) (neighbourColumn n (blockColumn l m b) k) (neighbourRow n (blockRow l m b) k) e in
+        let x : neighbourColumn n (blockColumn l m b) k - 1 < 16 * l .width = omega (arith, f .left, f .right) in
+        let y : neighbourRow n (blockRow l m b) k - 1 < 16 * l .height = omega (arith, f .up, f .down) in
+        let d = digits-lt {q = neighbourRow n (blockRow l m b) k - 1} {m = 16 * l .height} {r = neighbourColumn n (blockColumn l m b) k - 1} {c = 16 * l .width} y x in
+        a .agree (neighbourPlace n l m b k) (omega arith) (see k h e)
 
-module _ (make : ℕ → ℕ → List ℕ → List ℕ) (l : Layout) where
-  pub length-turn : (m b : ℕ) (p : List ℕ) → length (turn make l m b p) ≡ length p
+pub gathered-looks : (n : ℕ) (l : Layout) (m b : ℕ) → Starts n b → Looks 0 (planeLength 16 l) (SeenBy l m b) (gathered n l m b)
+gathered-looks n l m b start = gathered-from n l m b (SeenBy l m b) (neighbour-seen n l m b start)
+
+-- ---- a block's turn
+
+module _ (n : ℕ) (make : ℕ → ℕ → List ℕ → List ℕ) (l : Layout) where
+  pub length-turn : (m b : ℕ) (p : List ℕ) → length (turn n make l m b p) ≡ length p
   unfolding turn
-  length-turn m b p = length-stored 4 (stride l) (blockColumn l m b) (blockRow l m b) (make m b (gathered 4 l m b p)) p
+  length-turn m b p = length-stored n (stride 16 l) (blockColumn l m b) (blockRow l m b) (make m b (gathered n l m b p)) p
 
-  -- the first n turns of a macroblock, and those of the first macroblocks, keep the length too
-  pub length-turns : (m n : ℕ) (p : List ℕ) → length (fold n (turn make l m) p) ≡ length p
-  length-turns m n p = fold-keeps (λ k q. length q ≡ length p) n (turn make l m) p refl (λ k h e. length-turn m k (fold k (turn make l m) p) ∙ e)
-
-  pub length-macroblocks : (n : ℕ) (p : List ℕ) → length (fold n (λ m. fold 16 (turn make l m)) p) ≡ length p
-  length-macroblocks n p =
-      fold-keeps (λ k q. length q ≡ length p) n (λ m. fold 16 (turn make l m)) p refl
-      (λ k h e. length-turns k 16 (fold k (λ m. fold 16 (turn make l m)) p) ∙ e)
-
-module _ (make : ℕ → ℕ → List ℕ → List ℕ) (l : Layout) (some : 0 < l .width) where
-  by-digits : (n : ℕ) → orderOf (n / 16) (n % 16) ≡ n
-  by-digits n = omega arith
-
-  -- the turns, by the block's number
-  turns : Steps 0 (ownerOf l) (samplesOf l) (l .width * l .height * 16) (λ n. turn make l (n / 16) (n % 16))
+module _ (n : ℕ) (make : ℕ → ℕ → List ℕ → List ℕ) (l : Layout) (some : 0 < l .width) (m : ℕ) (among : m < countOf l) where
+  pub turn-step : (b : ℕ) → Starts n b → Step 0 (planeLength 16 l) (ownerOf l) (SeenBy l m b) (orderOf m b) (orderOf m b + covers n) (turn n make l m b)
   unfolding turn
-  turns = record {
-    long = λ n p. length-turn make l (n / 16) (n % 16) p;
-    off = λ n p h i hi other.
-        others-kept l some (n / 16) (n % 16) (omega arith) (omega arith) (make (n / 16) (n % 16) (gathered 4 l (n / 16) (n % 16) p)) p i
-        (λ e. other (e ∙ by-digits n));
-    on = λ n p q h a i hi o.
-        let d : ownerOf l i ≡ orderOf (n / 16) (n % 16) = o ∙ sym (by-digits n) in
-        let g = gathered-same 4 l (n / 16) (n % 16) p q (rw (by-digits n) a) in
-        own-stored l some (n / 16) (n % 16) (omega arith) (omega arith) (make (n / 16) (n % 16) (gathered 4 l (n / 16) (n % 16) p)) p (a .this) i d
-        ∙ ap (λ (v : List ℕ). getD (make (n / 16) (n % 16) v) (4 * (i / stride l % 4) + i % stride l % 4) 0) g
-        ∙ sym (own-stored l some (n / 16) (n % 16) (omega arith) (omega arith) (make (n / 16) (n % 16) (gathered 4 l (n / 16) (n % 16) q)) q (a .that) i d);
-    cover = λ i h. let o = owner-lt l some i h in omega arith;
+  turn-step b start = record {
+    long = λ p. length-turn n make l m b p;
+    off = λ p i h other. others-kept l some n m b among start (make m b (gathered n l m b p)) p i other;
+    on = λ p q a i h own.
+        own-stored l some n m b among start (make m b (gathered n l m b p)) p (a .this) i own
+        ∙ ap (λ (v : List ℕ). getD (make m b v) ((i / stride 16 l - blockRow l m b) * n + (i % stride 16 l - blockColumn l m b)) 0) (gathered-looks n l m b start p q a)
+        ∙ sym (own-stored l some n m b among start (make m b (gathered n l m b q)) q (a .that) i own);
   }
 
-  pub turn-alike : (m b : ℕ) (p q : List ℕ) → m < l .width * l .height → b < 16 → AlikeTo l (orderOf m b) p q
-      → AlikeTo l (suc (orderOf m b)) (turn make l m b p) (turn make l m b q)
-  turn-alike m b p q hm hb a =
-      let x : (16 * m + b) / 16 ≡ m = omega arith in
-      let y : (16 * m + b) % 16 ≡ b = omega arith in
-      rw (x, y) at (step-alike 0 (ownerOf l) (samplesOf l) turns (16 * m + b) (omega arith) p q a)
+-- ---- a macroblock's turns
 
-  pub turns-alike : (m n : ℕ) (p q : List ℕ) → m < l .width * l .height → n ≤ 16 → AlikeTo l (orderOf m 0) p q
-      → AlikeTo l (orderOf m n) (fold n (turn make l m) p) (fold n (turn make l m) q)
-  turns-alike m n p q hm hn a =
-      fold-along (λ k x y. AlikeTo l (orderOf m k) x y) n (turn make l m) (turn make l m) p q a
-      (λ k h r.
-      let z : suc (orderOf m k) ≡ orderOf m (suc k) = omega arith in
-      rw z at (turn-alike m k (fold k (turn make l m) p) (fold k (turn make l m) q) hm (omega arith) r))
+-- the blocks of n by n cover the macroblock
+filled : (n : ℕ) → Size n → covers n * blockCount n ≡ 16
+unfolding covers blockCount
+filled n s = eqb→eq _ _ (every-size (λ n. eqb (covers n * blockCount n) 16) tt n s)
 
-  -- any two planes of the picture are alike before its first block
-  pub macroblocks-alike : (n : ℕ) (p q : List ℕ) → n ≤ l .width * l .height → length p ≡ samplesOf l → length q ≡ samplesOf l
-      → AlikeTo l (orderOf n 0) (fold n (λ m. fold 16 (turn make l m)) p) (fold n (λ m. fold 16 (turn make l m)) q)
-  macroblocks-alike n p q hn hp hq =
-      fold-along (λ k x y. AlikeTo l (orderOf k 0) x y) n (λ m. fold 16 (turn make l m)) (λ m. fold 16 (turn make l m)) p q
-      (record { this = hp; that = hq; agree = λ i h o. absurd (not-suc-le-zero o) })
-      (λ k h r.
-      let z : orderOf k 16 ≡ orderOf (suc k) 0 = omega arith in
-      rw z at (turns-alike k 16 (fold k (λ m. fold 16 (turn make l m)) p) (fold k (λ m. fold 16 (turn make l m)) q) (omega arith) (omega arith) r))
+module _ (n : ℕ) (size : Size n) (make : ℕ → ℕ → List ℕ → List ℕ) (l : Layout) (some : 0 < l .width) (m : ℕ) (among : m < countOf l) where
+  -- the first k turns
+  first-turns : (k : ℕ) → k ≤ blockCount n → Step 0 (planeLength 16 l) (ownerOf l) (SeenFrom 16 l m) (orderOf m (covers n * 0)) (orderOf m (covers n * k)) (firstTurns n make l m k)
+  unfolding firstTurns
+  first-turns k most =
+      step-fold 0 (planeLength 16 l) (ownerOf l) (SeenFrom 16 l m) (λ j. orderOf m (covers n * j)) (λ j. turn n make l m (covers n * j)) k
+      (λ j h. omega (arith, mul-suc (covers n) j))
+      (λ j h.
+      let start = starts-turn n j size (omega arith) in
+      let z : orderOf m (covers n * suc j) ≡ orderOf m (covers n * j) + covers n = omega (arith, mul-suc (covers n) j) in
+      rw (z, mul-zero (covers n))
+      (step-sees 0 (planeLength 16 l) (ownerOf l) (Also (ownerOf l) (SeenFrom 16 l m) (orderOf m 0) (orderOf m (covers n * j)))
+      (λ i hi s. seen-from l m (covers n * j) (stands n (covers n * j) start .block) i s)
+      (turn-step n make l some m among (covers n * j) start)))
+      .1
 
-  pub start-has-no-value : (p q : List ℕ) → length p ≡ samplesOf l → length q ≡ samplesOf l → allTurns make l p ≡ allTurns make l q
-  unfolding allTurns
-  start-has-no-value p q hp hq =
-      fold-flat (l .width * l .height) 16 (turn make l) p
-      ∙ start-forgotten 0 (ownerOf l) (samplesOf l) turns p q hp hq
-      ∙ sym (fold-flat (l .width * l .height) 16 (turn make l) q)
+  pub turns-agree : (k : ℕ) → k ≤ blockCount n → (p q : List ℕ) → Agree 0 (planeLength 16 l) (SeenFrom 16 l m) p q
+      → Agree 0 (planeLength 16 l) (Also (ownerOf l) (SeenFrom 16 l m) (orderOf m 0) (orderOf m (covers n * k))) (firstTurns n make l m k p) (firstTurns n make l m k q)
+  turns-agree k most p q a = rw (mul-zero (covers n)) at (step-agree 0 (planeLength 16 l) (ownerOf l) (first-turns k most) p q a)
+
+  -- the neighbours of the block that begins with 4x4 block b, number k of its size, when the blocks before it have had their turns
+  pub turns-look : (k b : ℕ) → b ≡ covers n * k → k < blockCount n → LooksFrom 16 l m (λ p. gathered n l m b (firstTurns n make l m k p))
+  turns-look k b is h p q a =
+      let start : Starts n b = rw is (starts-turn n k size h) in
+      gathered-looks n l m b start (firstTurns n make l m k p) (firstTurns n make l m k q)
+      (agree-less 0 (planeLength 16 l) (Also (ownerOf l) (SeenFrom 16 l m) (orderOf m 0) (orderOf m (covers n * k))) (SeenBy l m b)
+      (λ i hi s. rw (sym is) (seen-from l m b (stands n b start .block) i s)) _ _
+      (turns-agree k (omega arith) p q a))
+
+  pub turns-step : MacroblockStep 16 l m (turns n make l m)
+  turns-step =
+      step-by 0 (planeLength 16 l) (ownerOf l) (macroblockOwning 16 l) m (suc m)
+      (λ i h b.
+      let o = order-macroblock l (i % stride 16 l) (i / stride 16 l) in
+      (omega (arith, o .1, b .0, mul-zero (covers n)), omega (arith, o .0, b .1, filled n size)))
+      (λ i h b.
+      let o = order-macroblock l (i % stride 16 l) (i / stride 16 l) in
+      (omega (arith, o .0, b .0, mul-zero (covers n)), omega (arith, o .1, b .1, filled n size)))
+      (first-turns (blockCount n) (omega arith))
+
+-- ---- what the turns are
+
+-- of 8 by 8 and of 16 by 16, written out
+pub turns-eight : (make : ℕ → ℕ → List ℕ → List ℕ) (l : Layout) (m : ℕ) (p : List ℕ)
+    → turns 8 make l m p ≡ turn 8 make l m 12 (turn 8 make l m 8 (turn 8 make l m 4 (turn 8 make l m 0 p)))
+unfolding firstTurns covers blockCount fold
+turns-eight make l m p = refl
+
+pub turns-sixteen : (make : ℕ → ℕ → List ℕ → List ℕ) (l : Layout) (m : ℕ) (p : List ℕ) → turns 16 make l m p ≡ turn 16 make l m 0 p
+unfolding firstTurns covers blockCount fold
+turns-sixteen make l m p = refl
+
+-- of 4 by 4, by the numbers of blocks
+pub by-one : (b : ℕ) → b ≡ covers 4 * b
+unfolding covers
+by-one b = sym (one-mul b)
+
+pub turns-four : (make : ℕ → ℕ → List ℕ → List ℕ) (l : Layout) (m k : ℕ) (p : List ℕ) → fold k (turn 4 make l m) p ≡ firstTurns 4 make l m k p
+unfolding firstTurns
+turns-four make l m k p =
+    fold-follow k (turn 4 make l m) (λ j. turn 4 make l m (covers 4 * j)) p
+    (λ j h. ap (λ (b : ℕ). turn 4 make l m b (fold j (λ i. turn 4 make l m (covers 4 * i)) p)) (by-one j))
+
+-- two ways of making blocks: where they make the same of what each block sees, the first turns are the same
+pub turns-follow : (n : ℕ) (make other : ℕ → ℕ → List ℕ → List ℕ) (l : Layout) (m k : ℕ) (p : List ℕ)
+    → ((j b : ℕ) → j < k → b ≡ covers n * j → make m b (gathered n l m b (firstTurns n other l m j p)) ≡ other m b (gathered n l m b (firstTurns n other l m j p)))
+    → firstTurns n make l m k p ≡ firstTurns n other l m k p
+unfolding firstTurns turn
+turns-follow n make other l m k p same =
+    fold-follow k (λ j. turn n make l m (covers n * j)) (λ j. turn n other l m (covers n * j)) p
+    (λ j h. ap (λ (block : List ℕ). withBlock n l m (covers n * j) block (fold j (λ i. turn n other l m (covers n * i)) p)) (same j (covers n * j) h refl))

@@ -5,10 +5,8 @@ use mathlib.Core.List.{List}
 use Prim.Native.Nat.{ℕ}
 use denote.Ref.{now}
 use Rattle.unique.specs.Unique.{Unique}
-use Rattle.picture.proofs.inner.column.Kinds as column
-use Rattle.picture.proofs.inner.column.Reads as column-reads
-use Rattle.picture.proofs.inner.row.Kinds as row
-use Rattle.picture.proofs.inner.row.Reads as row-reads
+use Rattle.picture.proofs.inner.one_slice.Kinds as one-slice
+use Rattle.picture.proofs.inner.one_slice.Reads as one-slice-reads
 use Rattle.picture.proofs.inner.flags.Kinds as flags
 use Rattle.picture.proofs.inner.flags.Reads as flags-reads
 use Rattle.picture.proofs.inner.first_place.Kinds as first-place
@@ -20,11 +18,8 @@ use Rattle.picture.proofs.inner.read_block.Reads as read-block-reads
 use Rattle.picture.proofs.inner.store_block.Kinds as store-block
 use Rattle.picture.proofs.inner.store_block.Reads as store-block-reads
 
-pub column-unique : Unique 0 column.ps column.r column-reads.Learnt (Unit {0}) (λ κs e. tt)
-column-unique κs a x y e f p q = (p ∙ sym q, refl)
-
-pub row-unique : Unique 0 row.ps row.r row-reads.Learnt (Unit {0}) (λ κs e. tt)
-row-unique κs a x y e f p q = (p ∙ sym q, refl)
+pub one-slice-unique : Unique 0 one-slice.ps one-slice.r one-slice-reads.Learnt (Unit {0}) (λ κs e. tt)
+one-slice-unique κs a x y e f p q = (p ∙ sym q, refl)
 
 pub flags-unique : Unique 0 flags.ps flags.r flags-reads.Learnt (Unit {0}) (λ κs e. tt)
 flags-unique κs a x y e f p q = (p ∙ sym q, refl)

@@ -5,10 +5,21 @@ ghost use Prim.Native.Nat.{_+_, _*_, _-_, _/_, _%_, _<_, _≤_};
 ghost use lib.ListN.{length, getD};
 ghost use Rattle.lists.specs.Tab.{tab};
 ghost use Rattle.picture.specs.Order.{Among, columnIn, rowIn, blockColumn, blockRow};
-ghost use Rattle.picture.specs.Plane.{stride, samplesOf, blockOf, withBlock, gathered};
+ghost use Rattle.picture.specs.Plane.{layoutOf, stride, planeLength, blockOf, withBlock, gathered};
 ghost use Rattle.picture.specs.Presence.{presentAt, flagsOf};
 ghost use Rattle.picture.specs.Reach.{Behind, early};
 use crate::Layout;
+
+// The picture of a size, as one slice.
+pub fn one_slice(width: usize, height: usize) -> Layout
+    ensures { λ r. ⌜ r ≡ layoutOf width height ⌝ }
+{
+    Layout {
+        width: width,
+        height: height,
+        rows: height,
+    }
+}
 
 // The column of block b in its macroblock, in blocks.
 fn column_inside(b: usize) -> usize
@@ -27,7 +38,7 @@ fn row_inside(b: usize) -> usize
 }
 
 // The column of the first sample of block b of macroblock m.
-pub fn column(layout: Layout, m: usize, b: usize) -> usize
+fn column(layout: Layout, m: usize, b: usize) -> usize
     requires { ⌜ Among layout m b ⌝ }
     ensures { λ r. ⌜ r ≡ blockColumn layout m b ⌝ }
 {
@@ -35,7 +46,7 @@ pub fn column(layout: Layout, m: usize, b: usize) -> usize
 }
 
 // The row of that sample.
-pub fn row(layout: Layout, m: usize, b: usize) -> usize
+fn row(layout: Layout, m: usize, b: usize) -> usize
     requires { ⌜ Among layout m b ⌝ }
     ensures { λ r. ⌜ r ≡ blockRow layout m b ⌝ }
 {
@@ -81,7 +92,7 @@ fn has_corner(layout: Layout, m: usize, b: usize) -> bool
 // Whether the upper right of block b comes before it where it lies in the picture. A match, since the compiler would copy a table to the
 // stack for each block.
 fn early(b: usize) -> bool
-    ensures { λ r. ⌜ r ≡ early b ⌝ }
+    ensures { λ r. ⌜ r ≡ early 4 b ⌝ }
 {
     match b {
         3 | 7 | 11 | 13 | 15 => false,
@@ -114,7 +125,7 @@ fn flag(present: bool, value: u8) -> u8
 // The flags byte of a block: bit 0 A-D, bit 1 I-L, bit 2 M, bit 3 E-H.
 pub fn flags(layout: Layout, m: usize, b: usize) -> u8
     requires { ⌜ Among layout m b ⌝ }
-    ensures { λ r. ⌜ r ≡ flagsOf layout m b ⌝ }
+    ensures { λ r. ⌜ r ≡ flagsOf 4 layout m b ⌝ }
 {
     flag(has_above(layout, m, b), 1)
         + flag(has_left(layout, m, b), 2)
@@ -125,7 +136,7 @@ pub fn flags(layout: Layout, m: usize, b: usize) -> u8
 // The place of the block's first sample in the plane.
 pub fn first_place(layout: Layout, m: usize, b: usize) -> usize
     requires { ⌜ Among layout m b ⌝ }
-    ensures { λ r. ⌜ r ≡ blockRow layout m b * stride layout + blockColumn layout m b ⌝ }
+    ensures { λ r. ⌜ r ≡ blockRow layout m b * stride 16 layout + blockColumn layout m b ⌝ }
 {
     row(layout, m, b) * (16 * layout.width) + column(layout, m, b)
 }
@@ -157,7 +168,7 @@ fn four(plane: &[u8], at: usize, back: usize, step: usize, present: bool) -> [u8
 // The neighbours of a block, in the order M, A to H, I to L; 0 stands for one that is missing.
 pub fn gather(plane: &[u8], layout: Layout, m: usize, b: usize) -> [u8; 13]
     requires { ⌜ Among layout m b ⌝ }
-    requires { ⌜ length (now plane) ≡ samplesOf layout ⌝ }
+    requires { ⌜ length (now plane) ≡ planeLength 16 layout ⌝ }
     ensures { λ r. ⌜ r ≡ gathered 4 layout m b (now (plane .entry)) ⌝ }
 {
     let stride = 16 * layout.width;
@@ -186,8 +197,8 @@ pub fn gather(plane: &[u8], layout: Layout, m: usize, b: usize) -> [u8; 13]
 // The sixteen samples of a block, in raster order.
 pub fn read_block(plane: &[u8], layout: Layout, m: usize, b: usize) -> [u8; 16]
     requires { ⌜ Among layout m b ⌝ }
-    requires { ⌜ length (now plane) ≡ samplesOf layout ⌝ }
-    ensures { λ r. ⌜ r ≡ blockOf layout m b (now (plane .entry)) ⌝ }
+    requires { ⌜ length (now plane) ≡ planeLength 16 layout ⌝ }
+    ensures { λ r. ⌜ r ≡ blockOf 4 layout m b (now (plane .entry)) ⌝ }
 {
     let stride = 16 * layout.width;
     let at = first_place(layout, m, b);
@@ -203,8 +214,8 @@ pub fn read_block(plane: &[u8], layout: Layout, m: usize, b: usize) -> [u8; 16]
 // The plane with the sixteen samples of a block in their places.
 pub fn store_block(plane: &mut [u8], layout: Layout, m: usize, b: usize, block: [u8; 16])
     requires { ⌜ Among layout m b ⌝ }
-    requires { ⌜ length (now plane) ≡ samplesOf layout ⌝ }
-    ensures { λ _. ⌜ now (plane .exit) ≡ withBlock layout m b block (now (plane .entry)) ⌝ }
+    requires { ⌜ length (now plane) ≡ planeLength 16 layout ⌝ }
+    ensures { λ _. ⌜ now (plane .exit) ≡ withBlock 4 layout m b block (now (plane .entry)) ⌝ }
 {
     let stride = 16 * layout.width;
     let at = first_place(layout, m, b);

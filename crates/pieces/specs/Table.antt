@@ -16,7 +16,7 @@ use Rattle.predict.specs.Samples.{mask}
 use Rattle.predict.specs.Rules.{Predicted, samples, none, predicted}
 use Rattle.residual.specs.Entry.{rebuildTests}
 use Rattle.residual.specs.Quantize.{levelOf}
-use Rattle.residual.specs.Rebuild.{numbersOf}
+use Rattle.residual.specs.Rebuild.{rescaledOf}
 use Rattle.residual.specs.Rescale.{mfAt}
 use Rattle.dc.specs.Dc.{lumaLevels, lumaValues, chromaLevels, chromaValues}
 use Rattle.record.specs.Records.{headOf}
@@ -48,7 +48,7 @@ all z = replicate 16 z
 
 -- a level alone at QP 0: what it rescales to, and what `rebuild` answers
 abbrev pub rescaledAlone : ℤ → List ℤ
-rescaledAlone z = getD (numbersOf 0 (alone z)) 0 (pos 0) ∷ []
+rescaledAlone z = getD (rescaledOf 0 (alone z)) 0 (pos 0) ∷ []
 
 abbrev pub rebuildAlone : ℤ → List ℤ
 rebuildAlone z = sent (chain (rebuildTests 0 (replicate 16 128) (alone z) (replicate 16 0)))

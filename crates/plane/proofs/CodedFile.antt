@@ -1,56 +1,45 @@
--- The file of a coded plane: the head and 527 bytes for each macroblock.
---     length-levels-from, length-blocks-from     sixteen levels for each block, so 256 for a macroblock
---     length-record-from                         a macroblock's record
---     length-file-from, length-coded-file        the file
---     same-record                                records of the same modes and levels, block by block
+-- The file of a coded plane: the head and a record for each macroblock.
+--     recordOn, fileTo: own-on, length-to     record m and what stands before it: its form is fine, by the length of what stands before
+--     length-file-from, length-coded-file     the file has the length that document 01 gives
 -- Assumes nothing.
 use mathlib.Core.Path.{_≡_}
-use mathlib.Core.List.{List}
-use Prim.Native.Nat.{ℕ, _+_, _*_, _<_}
+use mathlib.Core.List.{List, _++_}
+use Prim.Native.Nat.{ℕ, _*_}
 use native.Mathlib.Omega.{arith}
 use lib.ListN.{length, length-append}
 use Rattle.lists.specs.Parts.{parts}
-use Rattle.lists.proofs.Parts.{length-parts, parts-same}
-use Rattle.lists.proofs.Tab.{tab-same}
-use Rattle.residual.proofs.Order.{length-zigzag}
-use Rattle.record.specs.Records.{headOf, recordOf}
-use Rattle.record.proofs.Back.{length-head, length-record}
+use Rattle.lists.proofs.Parts.{length-parts}
+use Rattle.record.specs.Kinds.{inFours, lengthOf}
+use Rattle.record.specs.Records.{headOf, fileLength}
+use Rattle.record.proofs.Back.{Own, length-head}
 use Rattle.picture.specs.declared.Layout.{Layout}
-use Rattle.picture.specs.Plane.{samplesOf}
-use Rattle.plane.specs.Decode.{countOf, cleared}
-use Rattle.plane.specs.Code.{modeFrom, levelsFrom, seen, modesFrom, blocksFrom, recordFrom, planeBefore, fileFrom, codedFile}
+use Rattle.picture.specs.Order.{countOf}
+use Rattle.picture.specs.Plane.{planeLength}
+use Rattle.macroblock.specs.Code.{recordFrom}
+use Rattle.macroblock.proofs.RecordFrom.{length-record-from, own-record-from}
+use Rattle.plane.specs.Decode.{cleared}
+use Rattle.plane.specs.Code.{planeBefore, fileFrom, codedFile}
 
-module _ (l : Layout) (qp : ℕ) (original : List ℕ) where
-  pub length-levels-from : (m b : ℕ) (neighbours : List ℕ) → length (levelsFrom l qp original m b neighbours) ≡ 16
-  unfolding levelsFrom
-  length-levels-from m b neighbours = length-zigzag _
+module _ (l : Layout) (qp : ℕ) (original start : List ℕ) where
+  -- record m of the file
+  abbrev pub recordOn : ℕ → List ℕ
+  recordOn m = recordFrom l qp original m (planeBefore l qp original start m)
 
-  pub length-blocks-from : (m : ℕ) (before : List ℕ) → length (blocksFrom l qp original m before) ≡ 256
-  length-blocks-from m before =
-      length-parts 16 (λ b. levelsFrom l qp original m b (seen l qp original m before b)) 16
-      (λ b h. length-levels-from m b (seen l qp original m before b))
+  -- the file before record m
+  abbrev pub fileTo : ℕ → List ℕ
+  fileTo m = headOf (l .width) (l .height) ++ parts m recordOn
 
-  pub length-record-from : (m : ℕ) (before : List ℕ) → length (recordFrom l qp original m before) ≡ 527
-  unfolding recordFrom
-  length-record-from m before = length-record m qp (modesFrom l qp original m before) (blocksFrom l qp original m before) (length-blocks-from m before)
+  pub own-on : (m : ℕ) → Own m (recordOn m)
+  own-on m = own-record-from l qp original m (planeBefore l qp original start m)
 
-  pub length-file-from : (start : List ℕ) → length (fileFrom l qp original start) ≡ 8 + 527 * countOf l
+  pub length-to : (m : ℕ) → length (fileTo m) ≡ fileLength m
+  length-to m =
+      let n = length-parts (lengthOf inFours) recordOn m (λ k h. length-record-from l qp original k (planeBefore l qp original start k)) in
+      omega (arith, length-append (headOf (l .width) (l .height)) (parts m recordOn), length-head (l .width) (l .height), n)
+
+  pub length-file-from : length (fileFrom l qp original start) ≡ fileLength (countOf l)
   unfolding fileFrom
-  length-file-from start =
-      let record-at : ℕ → List ℕ = λ m. recordFrom l qp original m (planeBefore l qp original start m) in
-      let n = length-parts 527 record-at (countOf l) (λ m h. length-record-from m (planeBefore l qp original start m)) in
-      omega (arith, length-append (headOf (l .width) (l .height)) (parts (countOf l) record-at), length-head (l .width) (l .height), n)
+  length-file-from = length-to (countOf l)
 
-  pub length-coded-file : length (codedFile l qp original) ≡ 8 + 527 * countOf l
-  length-coded-file = length-file-from (cleared (samplesOf l))
-
--- of two planes, from two rebuilt planes before the macroblock
-pub same-record : (l : Layout) (qp m : ℕ) (p q before after : List ℕ)
-    → ((b : ℕ) → b < 16 → modeFrom l p m b (seen l qp p m before b) ≡ modeFrom l q m b (seen l qp q m after b))
-    → ((b : ℕ) → b < 16 → levelsFrom l qp p m b (seen l qp p m before b) ≡ levelsFrom l qp q m b (seen l qp q m after b))
-    → recordFrom l qp p m before ≡ recordFrom l qp q m after
-unfolding recordFrom
-same-record l qp m p q before after same-modes same-levels =
-    let modes : modesFrom l qp p m before ≡ modesFrom l qp q m after = tab-same 16 _ _ same-modes in
-    let blocks : blocksFrom l qp p m before ≡ blocksFrom l qp q m after = parts-same 16 _ _ same-levels in
-    λ i. recordOf m qp (modes i) (blocks i)
+pub length-coded-file : (l : Layout) (qp : ℕ) (original : List ℕ) → length (codedFile l qp original) ≡ fileLength (countOf l)
+length-coded-file l qp original = length-file-from l qp original (cleared (planeLength 16 l))

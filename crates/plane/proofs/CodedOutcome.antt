@@ -6,28 +6,27 @@
 -- Assumes nothing.
 use mathlib.Core.Path.{_≡_, sym, ap, subst, _∙_}
 use mathlib.Core.Bool.{true, false}
-use mathlib.Core.List.{List, _++_, append-nil}
-use Prim.Native.Nat.{ℕ, _+_, _*_, _<_, _≤_}
+use mathlib.Core.List.{List}
+use Prim.Native.Nat.{ℕ, _<_, _≤_}
 use native.Mathlib.Omega.{arith}
 use borrow.Author.Tests.{eqb-true, leb-true, eq-eqb, ne-eqb, le-leb, lt-leb}
-use lib.ListN.{length, drop-of-length-le}
+use lib.ListN.{length}
 use Rattle.lists.specs.Chain.{pass, stop, chain}
+use Rattle.lists.specs.Parts.{over}
+use Rattle.lists.proofs.Over.{over-all}
 use Rattle.lists.proofs.Chain.{ExactlyIf, chain-exactly-if, holds-new}
 use Rattle.refusal.specs.declared.Refusal.{Refusal}
 use Rattle.refusal.specs.declared.Refusal.the-variants as refusal
 use Rattle.refusal.proofs.Same.{says, says-same, says-exactly-if}
 use Rattle.quantizer.specs.Range.{highest}
 use Rattle.record.specs.Entry.{sizeHolds}
-use Rattle.picture.specs.Plane.{layoutOf, samplesOf}
-use Rattle.plane.specs.Decode.{countOf}
-use Rattle.plane.specs.Code.{codedFile, codedPlane, codePlaneTests, saidPlane, bytesUsed, over, CodesPlane}
+use Rattle.record.specs.Records.{fileLength}
+use Rattle.picture.specs.Order.{countOf}
+use Rattle.picture.specs.Plane.{layoutOf, planeLength}
+use Rattle.plane.specs.Code.{codedFile, codedPlane, codePlaneTests, saidPlane, bytesUsed, CodesPlane}
 use Rattle.plane.specs.declared.CodedPlane.{CodedPlane}
 use Rattle.plane.specs.declared.CodedPlane.the-variants.{Bytes, Refused}
 use Rattle.plane.proofs.CodedFile.{length-coded-file}
-
--- what goes over an area as long as it is fills it
-over-all : (new old : List ℕ) → length old ≡ length new → over new old ≡ new
-over-all new old e = ap (λ (l : List ℕ). new ++ l) (drop-of-length-le old {i = length new} (omega arith)) ∙ append-nil new
 
 pub same-coded-plane : (x y : CodedPlane) → saidPlane x ≡ saidPlane y → bytesUsed x ≡ bytesUsed y → x ≡ y
 same-coded-plane (Bytes m) (Bytes n) e g = ap Bytes g
@@ -43,10 +42,10 @@ module _ (width height qp : ℕ) (plane file rebuilt : List ℕ) where
   code-plane-refuses-exactly-if r file′ rebuilt′ p = says-exactly-if (codePlaneTests width height qp plane file rebuilt) (p .says)
 
   abbrev samples : ℕ
-  samples = samplesOf (layoutOf width height)
+  samples = planeLength 16 (layoutOf width height)
 
   abbrev room : ℕ
-  room = 8 + 527 * countOf (layoutOf width height)
+  room = fileLength (countOf (layoutOf width height))
 
   refused : (r : Refusal) → chain (codePlaneTests width height qp plane file rebuilt) ≡ stop r → CodesPlane width height qp plane file rebuilt (Refused r) file rebuilt
   refused r e = record { says = says (sym e); used = simp e; filed = simp e; stored = simp e }
@@ -73,18 +72,17 @@ module _ (width height qp : ℕ) (plane file rebuilt : List ℕ) where
               (simp (s, eq-eqb (length plane) samples p, eq-eqb (length file) room f, eq-eqb (length rebuilt) samples r, lt-leb qp highest h))
 
           -- k is the number that the quantizer in hand has
-          pub plane-coded : {k : ℕ} → k ≡ qp → qp ≤ highest → {file′ rebuilt′ : List ℕ}
-              → file′ ≡ codedFile (layoutOf width height) k plane → rebuilt′ ≡ codedPlane (layoutOf width height) k plane
-              → CodesPlane width height qp plane file rebuilt (Bytes room) file′ rebuilt′
-          plane-coded is q {file′} {rebuilt′} u v =
+          pub plane-coded : {k : ℕ} → k ≡ qp → qp ≤ highest → {used : ℕ} {file′ rebuilt′ : List ℕ} → used ≡ length (codedFile (layoutOf width height) k plane)
+              → file′ ≡ over (codedFile (layoutOf width height) k plane) file → rebuilt′ ≡ codedPlane (layoutOf width height) k plane
+              → CodesPlane width height qp plane file rebuilt (Bytes used) file′ rebuilt′
+          plane-coded is q {used} {file′} {rebuilt′} n u v =
               let l = layoutOf width height in
               let e : chain (codePlaneTests width height qp plane file rebuilt) ≡ pass =
               simp (s, eq-eqb (length plane) samples p, eq-eqb (length file) room f, eq-eqb (length rebuilt) samples r, le-leb qp highest q) in
-              let n = length-coded-file l qp plane in
               record {
                 says = says (sym e);
-                used = simp e (sym n);
-                filed = simp e (u ∙ ap (λ (i : ℕ). codedFile l i plane) is ∙ sym (over-all (codedFile l qp plane) file (f ∙ sym n)));
+                used = simp e (n ∙ ap (λ (i : ℕ). length (codedFile l i plane)) is);
+                filed = simp e (u ∙ ap (λ (i : ℕ). over (codedFile l i plane) file) is);
                 stored = simp e (v ∙ ap (λ (i : ℕ). codedPlane l i plane) is);
               }
 
@@ -93,10 +91,10 @@ module _ (width height qp : ℕ) (plane file rebuilt : List ℕ) where
 -- what is known where a plane was coded
 pub record Outcome (width height qp : ℕ) (plane file rebuilt : List ℕ) (used : ℕ) (file′ rebuilt′ : List ℕ) : Type 0 where
   pub size : sizeHolds width height ≡ true
-  pub long : length plane ≡ samplesOf (layoutOf width height)
-  pub room : length rebuilt ≡ samplesOf (layoutOf width height)
+  pub long : length plane ≡ planeLength 16 (layoutOf width height)
+  pub room : length rebuilt ≡ planeLength 16 (layoutOf width height)
   pub legal : qp ≤ highest
-  pub bytes : used ≡ 8 + 527 * countOf (layoutOf width height)
+  pub bytes : used ≡ fileLength (countOf (layoutOf width height))
   pub filed : file′ ≡ codedFile (layoutOf width height) qp plane
   pub stored : rebuilt′ ≡ codedPlane (layoutOf width height) qp plane
 
@@ -107,11 +105,11 @@ module _ (width height qp : ℕ) (plane : List ℕ) where
       let v : chain (codePlaneTests width height qp plane file rebuilt) ≡ pass = sym (says-same (c .says)) in
       let all = chain-exactly-if (codePlaneTests width height qp plane file rebuilt) .passes .0 v in
       let n = length-coded-file (layoutOf width height) qp plane in
-      let area : length file ≡ 8 + 527 * countOf (layoutOf width height) = eqb-true (length file) (8 + 527 * countOf (layoutOf width height)) (all .1 .1 .0) in
+      let area : length file ≡ fileLength (countOf (layoutOf width height)) = eqb-true (length file) (fileLength (countOf (layoutOf width height))) (all .1 .1 .0) in
       record {
         size = all .0;
-        long = eqb-true (length plane) (samplesOf (layoutOf width height)) (all .1 .0);
-        room = eqb-true (length rebuilt) (samplesOf (layoutOf width height)) (all .1 .1 .1 .0);
+        long = eqb-true (length plane) (planeLength 16 (layoutOf width height)) (all .1 .0);
+        room = eqb-true (length rebuilt) (planeLength 16 (layoutOf width height)) (all .1 .1 .1 .0);
         legal = leb-true qp highest (all .1 .1 .1 .1 .0);
         bytes = holds-new 0 v (c .used) ∙ n;
         filed = holds-new file v (c .filed) ∙ over-all (codedFile (layoutOf width height) qp plane) file (area ∙ sym n);

@@ -1,206 +1,109 @@
--- What the coder computes of a block, of a macroblock and of a file is what the definitions say.
---     block-coded, turn-coded                        a block by value, of the flags, neighbours and samples that the code has read; stored
---     modes-small                                    of any macroblock: modes fit four bits
---     BlocksCoded: blocks-none, blocks-more, blocks-done     the loop over the blocks of a macroblock
---     macroblock-coded                               its record
---     FileCoded: file-begun, file-more, file-done    the loop over the macroblocks behind the head
+-- What the coder writes macroblock after macroblock is the file of the definitions, over what stood in the area.
+--     FileCoded: file-begun, file-more, file-done     the loop over the macroblocks behind the head
 -- Assumes nothing.
 use mathlib.Core.Path.{_≡_, refl, sym, ap, subst, _∙_}
 use mathlib.Core.List.{List, _++_, append-assoc, append-nil}
 use Prim.Native.Nat.{ℕ, _+_, _-_, _*_, _<_, _≤_}
+use native.Mathlib.Nat.{mul-le-mul-left}
 use native.Mathlib.Omega.{arith}
 use borrow.Rule.Slice.PartMut.{putMid}
-use lib.IntN.{pos}
-use lib.ListN.{length, getD, set, take, drop}
-use mir.Syntax.{w16}
-use mir.Val.{SFits}
-use Rattle.lists.specs.Fold.{fold}
-use Rattle.lists.specs.Parts.{parts}
+use lib.ListN.{length, take, drop, length-append}
+use Rattle.lists.specs.Parts.{parts, over}
 use Rattle.lists.proofs.Fold.{Folding, folding-none, folding-more, folding-done}
-use Rattle.lists.proofs.Parts.{Growing, growing-none, growing-part, growing-done, parts-more, part-read}
-use Rattle.lists.proofs.Places.{tab-places}
-use Rattle.lists.proofs.Tab.{Filling, filling-none, filling-more, filling-done}
-use Rattle.whole.proofs.Bound.{here, fits}
-use Rattle.whole.proofs.Steps.{each-at}
-use Rattle.predict.specs.Samples.{mask}
-use Rattle.predict.proofs.Least.{chosen-least, some-mode}
-use Rattle.block.specs.Block.{modeOf}
-use Rattle.block.specs.Entry.{Carries}
-use Rattle.block.specs.declared.inner.Block.{Block}
-use Rattle.record.specs.Numbers.{levelBytes}
-use Rattle.record.specs.Records.{summed, frontOf, headOf}
-use Rattle.record.proofs.Levels.{length-levels}
-use Rattle.record.proofs.Back.{length-head, levels-parts, sealed}
+use Rattle.lists.proofs.Over.{over-more, over-again, length-over}
+use Rattle.lists.proofs.Parts.{parts-more}
+use Rattle.record.specs.Kinds.{inFours, lengthOf}
+use Rattle.record.specs.Records.{headLength, headOf, fileLength}
+use Rattle.record.proofs.Back.{length-head}
 use Rattle.picture.specs.declared.Layout.{Layout}
-use Rattle.picture.specs.Plane.{samplesOf, blockOf, withBlock, gathered, turn}
-use Rattle.picture.specs.Presence.{flagsOf}
-use Rattle.picture.proofs.Start.{length-turn, length-turns}
-use Rattle.plane.specs.Code.{modeFrom, levelsFrom, samplesFrom, seen, modesFrom, blocksFrom, recordFrom, planeBefore, fileFrom, planeFrom}
-use Rattle.plane.specs.Decode.{countOf}
-use Rattle.plane.proofs.CodedFile.{length-levels-from, length-blocks-from, length-record-from}
+use Rattle.picture.specs.Order.{countOf}
+use Rattle.picture.specs.Plane.{planeLength}
+use Rattle.macroblock.specs.Code.{recordFrom, codedStep}
+use Rattle.macroblock.proofs.Looks.{coded-step}
+use Rattle.macroblock.proofs.RecordFrom.{length-record-from}
+use Rattle.plane.specs.Code.{planeBefore, fileFrom, planeFrom}
+use Rattle.plane.proofs.CodedFile.{recordOn, fileTo, length-to}
 
--- ---- a block
+module _ (l : Layout) (qp : ℕ) (original start area : List ℕ) where
+  -- the head and m records stand over the front of the area, and the next one begins at the place
+  pub record FileCoded (file rebuilt : List ℕ) (place m : ℕ) : Type 0 where
+    pub kept : length rebuilt ≡ planeLength 16 l
+    pub stepped : Folding (countOf l) (codedStep l qp original) start rebuilt m
+    pub room : fileLength (countOf l) ≤ length area
+    pub filled : file ≡ over (fileTo l qp original start m) area
+    pub next : place ≡ length (fileTo l qp original start m)
 
--- a block by value is that of block b of macroblock m, beside these neighbours
-pub record BlockCoded (l : Layout) (qp : ℕ) (original : List ℕ) (m b : ℕ) (neighbours : List ℕ) (x : Block) : Type 0 where
-  pub mode : x .mode ≡ modeFrom l original m b neighbours
-  pub levels : x .levels ≡ levelsFrom l qp original m b neighbours
-  pub levels-fit : (k : ℕ) → SFits w16 (getD (x .levels) k (pos 0))
-  pub samples : x .rebuilt ≡ samplesFrom l qp original m b neighbours
+  -- the area keeps its length
+  pub same-area : {file rebuilt : List ℕ} {place m : ℕ} → FileCoded file rebuilt place m → length file ≡ length area
+  same-area {file} {rebuilt} {place} {m} c =
+      let n = length-to l qp original start m in
+      let r = c .room in
+      let below = mul-le-mul-left (lengthOf inFours) (c .stepped .below) in
+      ap length (c .filled) ∙ length-over (fileTo l qp original start m) area (omega (arith, n, r, below))
 
-pub block-coded : (l : Layout) (qp : ℕ) (original : List ℕ) (m b : ℕ) (plane : List ℕ) (x : Block) {flags : ℕ} {n s : List ℕ}
-    → flags ≡ flagsOf l m b → n ≡ gathered 4 l m b plane → s ≡ blockOf l m b original → Carries qp (mask n flags) s x
-    → BlockCoded l qp original m b (gathered 4 l m b plane) x
-unfolding modeFrom levelsFrom samplesFrom
-block-coded l qp original m b plane x {flags} {n} {s} is-f is-n is-s c =
-    let d : Carries qp (mask (gathered 4 l m b plane) (flagsOf l m b)) (blockOf l m b original) x = subst (λ (t : List ℕ). Carries qp (mask (gathered 4 l m b plane) (flagsOf l m b)) t x) is-s (rw (is-f, is-n) at c) in
-    record {
-      mode = ap modeOf (d .best);
-      levels = d .levels;
-      levels-fit = λ k. fits (here (each-at 32767 (x .levels) (c .small) k)) tt;
-      samples = d .rebuilt;
-    }
+  -- and what stands behind the place has room for record m
+  pub room-left : {file rebuilt : List ℕ} {place m : ℕ} → FileCoded file rebuilt place m → m < countOf l → place + lengthOf inFours ≤ length area
+  room-left {file} {rebuilt} {place} {m} c h =
+      let n = length-to l qp original start m in
+      let r = c .room in
+      let below = mul-le-mul-left (lengthOf inFours) h in
+      omega (arith, n, c .next, r, below)
 
--- what has been stored is the block's turn
-pub turn-coded : (l : Layout) (qp : ℕ) (original : List ℕ) (m b : ℕ) (plane : List ℕ) (x : Block) → BlockCoded l qp original m b (gathered 4 l m b plane) x
-    → {s after : List ℕ} → after ≡ withBlock l m b s plane → s ≡ x .rebuilt → after ≡ turn (samplesFrom l qp original) l m b plane
-unfolding turn
-turn-coded l qp original m b plane x c e g = e ∙ ap (λ (v : List ℕ). withBlock l m b v plane) (g ∙ c .samples)
+  -- macroblock m has been coded: its record over the front of what was lent, and the plane behind its step
+  pub file-more : {file rebuilt : List ℕ} {place m : ℕ} → 0 < l .width → FileCoded file rebuilt place m → m < countOf l
+      → {end used : ℕ} {back after : List ℕ} → end ≡ length file
+      → used ≡ length (recordFrom l qp original m rebuilt)
+      → back ≡ over (recordFrom l qp original m rebuilt) (take (end - place) (drop place file))
+      → after ≡ codedStep l qp original m rebuilt
+      → FileCoded (putMid place (end - place) file back) after (place + used) (m + 1)
+  unfolding planeBefore
+  file-more {file} {rebuilt} {place} {m} some c h {end} {used} {back} {after} is-end is-used is-back is-after =
+      let e : recordFrom l qp original m rebuilt ≡ recordOn l qp original start m = ap (recordFrom l qp original m) (c .stepped .is) in
+      let r = room-left c h in
+      let more : fileTo l qp original start (m + 1) ≡ fileTo l qp original start m ++ recordOn l qp original start m =
+      ap (λ (x : List ℕ). headOf (l .width) (l .height) ++ x) (parts-more m (recordOn l qp original start)) ∙ sym (append-assoc (headOf (l .width) (l .height)) (parts m (recordOn l qp original start)) (recordOn l qp original start m)) in
+      let long = length-record-from l qp original m (planeBefore l qp original start m) in
+      let at : back ≡ over (recordOn l qp original start m) (take (end - length (fileTo l qp original start m)) (drop (length (fileTo l qp original start m)) file)) =
+      is-back ∙ (λ i. over (e i) (take (end - c .next i) (drop (c .next i) file))) in
+      record {
+        kept = ap length is-after ∙ coded-step l some m h qp original .long rebuilt ∙ c .kept;
+        stepped = folding-more _ _ _ (c .stepped) h is-after;
+        room = c .room;
+        filled =
+            ap (λ (p : ℕ). putMid p (end - p) file back) (c .next)
+            ∙ over-more (fileTo l qp original start m) (recordOn l qp original start m) area file end (c .filled) (is-end ∙ same-area c) (omega (arith, r, c .next, long)) at
+            ∙ ap (λ (x : List ℕ). over x area) (sym more);
+        next = (λ i. c .next i + (is-used ∙ ap length e) i) ∙ sym (ap length more ∙ length-append (fileTo l qp original start m) (recordOn l qp original start m));
+      }
 
-module _ (l : Layout) (qp : ℕ) (original : List ℕ) (m : ℕ) where
-  mode-small : (b : ℕ) (neighbours : List ℕ) → modeFrom l original m b neighbours < 16
-  unfolding modeFrom
-  mode-small b neighbours =
-      let c = some-mode (mask neighbours (flagsOf l m b)) (blockOf l m b original) in
-      let e = ap modeOf (c .2) in
-      omega (arith, e, c .3 .within)
+-- ---- from what stood there, and to what is left
 
-  -- ---- a macroblock, of the rebuilt plane before it
-
-  module _ (before : List ℕ) where
-    abbrev modeAt : ℕ → ℕ
-    modeAt b = modeFrom l original m b (seen l qp original m before b)
-
-    abbrev bytesAt : ℕ → List ℕ
-    bytesAt b = levelBytes (levelsFrom l qp original m b (seen l qp original m before b))
-
-    pub modes-small : (k : ℕ) → getD (modesFrom l qp original m before) k 0 < 16
-    modes-small = tab-places (λ (mode : ℕ). mode < 16) 0 (omega arith) 16 modeAt (λ k h. mode-small k (seen l qp original m before k))
-
-    -- b of its blocks have had their turns
-    pub record BlocksCoded (levels rebuilt modes : List ℕ) (b : ℕ) : Type 0 where
-      pub kept : length rebuilt ≡ samplesOf l
-      pub turned : Folding 16 (turn (samplesFrom l qp original) l m) before rebuilt b
-      pub chosen : Filling 16 modeAt modes b
-      pub room : length levels ≡ 512
-      pub filled : Growing levels (parts b bytesAt) (32 * b)
-
-    pub blocks-none : {levels modes : List ℕ} → length before ≡ samplesOf l → length modes ≡ 16 → length levels ≡ 512 → BlocksCoded levels before modes 0
-    unfolding parts
-    blocks-none {levels} {modes} h k r = record {
-      kept = h;
-      turned = folding-none _ _ _;
-      chosen = filling-none _ _ k;
-      room = r;
-      filled = growing-none levels;
-    }
-
-    -- block b has been coded: its mode r, its levels' bytes w, and the plane after its turn
-    pub blocks-more : {levels rebuilt modes : List ℕ} {b : ℕ} → BlocksCoded levels rebuilt modes b → b < 16
-        → {r : ℕ} {w after : List ℕ}
-        → r ≡ modeFrom l original m b (gathered 4 l m b rebuilt)
-        → w ≡ levelBytes (levelsFrom l qp original m b (gathered 4 l m b rebuilt))
-        → after ≡ turn (samplesFrom l qp original) l m b rebuilt
-        → length (putMid (32 * b) (32 * b + 32 - 32 * b) levels w) ≡ length levels
-        → BlocksCoded (putMid (32 * b) (32 * b + 32 - 32 * b) levels w) after (set modes b r) (b + 1)
-    unfolding seen
-    blocks-more {levels} {rebuilt} {modes} {b} c h {r} {w} {after} is-r is-w is-after same =
-        let s = ap (gathered 4 l m b) (c .turned .is) in
-        let long = ap length is-w ∙ length-levels (levelsFrom l qp original m b (gathered 4 l m b rebuilt)) in
-        let n = length-levels-from l qp original m b (gathered 4 l m b rebuilt) in
-        let e : 32 * (b + 1) ≡ 32 * b + 32 = omega arith in
-        let g = growing-part w (32 * b + 32) (c .filled) (omega arith) (omega (arith, c .room)) (omega (arith, long, n)) in
-        record {
-          kept = ap length is-after ∙ length-turn (samplesFrom l qp original) l m b rebuilt ∙ c .kept;
-          turned = folding-more _ _ _ (c .turned) h is-after;
-          chosen = filling-more _ _ (c .chosen) h (is-r ∙ ap (modeFrom l original m b) s);
-          room = same ∙ c .room;
-          filled = rw (e, parts-more) (subst (λ (v : List ℕ). Growing (putMid (32 * b) (32 * b + 32 - 32 * b) levels w) (parts b bytesAt ++ v) (32 * b + 32)) (is-w ∙ ap (λ (n : List ℕ). levelBytes (levelsFrom l qp original m b n)) s) g);
-        }
-
-    pub blocks-done : {levels rebuilt modes : List ℕ} {b : ℕ} → BlocksCoded levels rebuilt modes b → 16 ≤ b
-        → (modes ≡ modesFrom l qp original m before) × (levels ≡ levelBytes (blocksFrom l qp original m before)) × (rebuilt ≡ fold 16 (turn (samplesFrom l qp original) l m) before)
-    blocks-done {levels} {rebuilt} {modes} {b} c h =
-        let e : b ≡ 16 = omega (arith, c .turned .below) in
-        let g = rw e at (c .filled) in (
-          filling-done _ _ (c .chosen) h,
-          growing-done g (omega (arith, c .room)) ∙ sym (levels-parts 16 (λ b. levelsFrom l qp original m b (seen l qp original m before b))),
-          folding-done _ _ _ (c .turned) h,
-        )
-
-    -- front and sum go round levels that stand in their place already
-    pub macroblock-coded : (part w : List ℕ) {after modes : List ℕ} {number k : ℕ} → length part ≡ 527
-        → modes ≡ modesFrom l qp original m before → w ≡ levelBytes (blocksFrom l qp original m before) → number ≡ m → k ≡ qp
-        → after ≡ summed (frontOf number k modes ++ take 512 (drop 13 (putMid 13 512 part w)))
-        → after ≡ recordFrom l qp original m before
-    unfolding recordFrom
-    macroblock-coded part w {after} {modes} {number} {k} room is-modes is-w is-m is-qp e =
-        let levels = blocksFrom l qp original m before in
-        let long : length w ≡ 512 = omega (arith, ap length is-w, length-levels levels, length-blocks-from l qp original m before) in
-        let r = part-read part w 13 525 (omega arith) long ∙ is-w in
-        e ∙ sealed number k modes levels (putMid 13 512 part w) r ∙ rw (is-m, is-qp, is-modes)
-
--- ---- a file, from a rebuilt plane at the start
-
-module _ (l : Layout) (qp : ℕ) (original start : List ℕ) where
-  abbrev recordOn : ℕ → List ℕ
-  recordOn m = recordFrom l qp original m (planeBefore l qp original start m)
-
-  -- the head and m records stand in the file
-  pub record FileCoded (file rebuilt : List ℕ) (m : ℕ) : Type 0 where
-    pub kept : length rebuilt ≡ samplesOf l
-    pub turned : Folding (countOf l) (λ k. fold 16 (turn (samplesFrom l qp original) l k)) start rebuilt m
-    pub room : length file ≡ 8 + 527 * countOf l
-    pub filled : Growing file (headOf (l .width) (l .height) ++ parts m recordOn) (8 + 527 * m)
-
-  pub file-begun : (file w : List ℕ) → length start ≡ samplesOf l → length file ≡ 8 + 527 * countOf l → w ≡ headOf (l .width) (l .height)
-      → length (putMid 0 8 file w) ≡ length file → FileCoded (putMid 0 8 file w) start 0
+module _ (l : Layout) (qp : ℕ) (original start stood : List ℕ) where
+  -- the head has been written
+  pub file-begun : {file : List ℕ} {place : ℕ} → length start ≡ planeLength 16 l → fileLength (countOf l) ≤ length stood
+      → file ≡ over (headOf (l .width) (l .height)) stood → place ≡ headLength → FileCoded l qp original start file file start place 0
   unfolding parts
-  file-begun file w long room is-w same =
-      let n = ap length is-w ∙ length-head (l .width) (l .height) in
-      let g = growing-part w 8 (growing-none file) (omega arith) (omega (arith, room)) (omega (arith, n)) in
+  file-begun {file} {place} long room is-file is-place =
+      let h = headOf (l .width) (l .height) in
+      let n = length-head (l .width) (l .height) in
+      let same : file ≡ over (headOf (l .width) (l .height)) file =
+      is-file ∙ sym (ap (over (headOf (l .width) (l .height))) is-file ∙ over-again (headOf (l .width) (l .height)) (headOf (l .width) (l .height)) stood (omega arith)) in
       record {
         kept = long;
-        turned = folding-none _ _ _;
-        room = same ∙ room;
-        filled = rw (append-nil (headOf (l .width) (l .height))) (subst (λ (v : List ℕ). Growing (putMid 0 8 file w) v 8) is-w g);
+        stepped = folding-none _ _ _;
+        room = omega (arith, ap length is-file, length-over (headOf (l .width) (l .height)) stood (omega (arith, n, room)), room);
+        filled = rw (append-nil (headOf (l .width) (l .height))) same;
+        next = rw (append-nil (headOf (l .width) (l .height))) (is-place ∙ sym n);
       }
 
-  -- macroblock m has been coded: its record w, and the plane behind its blocks' turns
-  pub file-more : {file rebuilt : List ℕ} {m : ℕ} (w : List ℕ) → FileCoded file rebuilt m → m < countOf l
-      → {after : List ℕ}
-      → w ≡ recordFrom l qp original m rebuilt
-      → after ≡ fold 16 (turn (samplesFrom l qp original) l m) rebuilt
-      → length (putMid (8 + 527 * m) (8 + 527 * m + 527 - (8 + 527 * m)) file w) ≡ length file
-      → FileCoded (putMid (8 + 527 * m) (8 + 527 * m + 527 - (8 + 527 * m)) file w) after (m + 1)
-  unfolding planeBefore
-  file-more {file} {rebuilt} {m} w c h {after} is-w is-after same =
-      let s : w ≡ recordOn m = is-w ∙ ap (recordFrom l qp original m) (c .turned .is) in
-      let n = ap length is-w ∙ length-record-from l qp original m rebuilt in
-      let e : 8 + 527 * (m + 1) ≡ 8 + 527 * m + 527 = omega arith in
-      let g = growing-part w (8 + 527 * m + 527) (c .filled) (omega arith) (omega (arith, c .room, h)) (omega (arith, n)) in
-      record {
-        kept = ap length is-after ∙ length-turns (samplesFrom l qp original) l m 16 rebuilt ∙ c .kept;
-        turned = folding-more _ _ _ (c .turned) h is-after;
-        room = same ∙ c .room;
-        filled =
-            rw (e, parts-more, ← (append-assoc (headOf (l .width) (l .height)) (parts m recordOn) (recordOn m)))
-            (subst (λ (v : List ℕ). Growing (putMid (8 + 527 * m) (8 + 527 * m + 527 - (8 + 527 * m)) file w) ((headOf (l .width) (l .height) ++ parts m recordOn) ++ v) (8 + 527 * m + 527)) s g);
-      }
-
-  pub file-done : {file rebuilt : List ℕ} {m : ℕ} → FileCoded file rebuilt m → countOf l ≤ m
-      → (file ≡ fileFrom l qp original start) × (rebuilt ≡ planeFrom l qp original start)
+  pub file-done : {area file rebuilt : List ℕ} {place m : ℕ} → area ≡ over (headOf (l .width) (l .height)) stood → FileCoded l qp original start area file rebuilt place m → countOf l ≤ m
+      → (place ≡ length (fileFrom l qp original start)) × (file ≡ over (fileFrom l qp original start) stood) × (rebuilt ≡ planeFrom l qp original start)
   unfolding fileFrom planeBefore
-  file-done {file} {rebuilt} {m} c h =
-      let e : m ≡ countOf l = omega (arith, c .turned .below) in
-      (growing-done (rw e at (c .filled)) (omega (arith, c .room)), folding-done _ _ _ (c .turned) h)
+  file-done {area} {file} {rebuilt} {place} {m} is-area c h =
+      let e : m ≡ countOf l = omega (arith, c .stepped .below) in
+      let all = fileTo l qp original start (countOf l) in
+      let longer = length-append (headOf (l .width) (l .height)) (parts (countOf l) (recordOn l qp original start)) in (
+        rw e at (c .next),
+        (rw e at (c .filled)) ∙ ap (over all) is-area ∙ over-again (headOf (l .width) (l .height)) all stood (omega (arith, longer)),
+        folding-done _ _ _ (c .stepped) h,
+      )

@@ -1,14 +1,12 @@
 pub mod CodedFile
 pub mod CodedOutcome
-pub mod CodedRecord
 pub mod CodedStart
 pub mod Coding
 pub mod Entry
-pub mod Files
 pub mod OwnRecord
 pub mod OwnWitness
-pub mod Records
 pub mod Start
 pub mod Trip
 pub mod Unique
+pub mod Walking
 pub mod Witness

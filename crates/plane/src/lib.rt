@@ -1,18 +1,16 @@
 // A luma plane into its record file, and from it (01, "Plane and record file").
 ghost use mathlib.Core.Path.{_≡_};
-ghost use mathlib.Core.List.{_∷_};
-ghost use Prim.Native.Nat.{_+_, _*_};
+ghost use mathlib.Core.List.{_++_};
 ghost use lib.ListN.{length};
 ghost use Rattle.lists.specs.Chain.{chain};
 ghost use Rattle.refusal.specs.Number.{said};
 ghost use Rattle.picture.specs.Order.{Sound};
-ghost use Rattle.picture.specs.Plane.{layoutOf};
 ghost use Rattle.plane.specs.Code.{CodesPlane};
-ghost use Rattle.plane.specs.Decode.{countOf, formTest, contentsTests, DecodesBody, Decodes};
+ghost use Rattle.plane.specs.Decode.{formsTests, contentsTests, recordIn, DecodesBody, Decodes};
+use picture::Layout;
 use quantizer::Built;
 use quantizer::Quantizer;
 use record::Head;
-use record::Walk;
 use refusal::Answer;
 use refusal::Refusal;
 
@@ -26,34 +24,34 @@ pub enum CodedPlane {
     Refused(Refusal),
 }
 
-// The form of all records of a file, and then their content.
-fn tested(width: usize, height: usize, file: &[u8]) -> Answer
-    requires { ⌜ (Sound (layoutOf width height)) × (length (now file) ≡ 8 + 527 * countOf (layoutOf width height)) ⌝ }
-    ensures { λ r. ⌜ said r ≡ chain (formTest (layoutOf width height) (now (file .entry)) ∷ contentsTests (layoutOf width height) (now (file .entry))) ⌝ }
+// The form of all records of a file from a place on, and then their content.
+fn tested(layout: Layout, place: usize, file: &[u8]) -> Answer
+    requires { ⌜ Sound layout ⌝ }
+    ensures { λ r. ⌜ said r ≡ chain (formsTests layout place (now (file .entry)) ++ contentsTests layout (recordIn (now (file .entry)) place)) ⌝ }
 {
-    match record::inner::walk(file, 8, width * height) {
-        Walk::Broken(fault, place) => Answer::Refused(record::inner::refusal(fault, place)),
-        Walk::Whole(_) => content::contents(width, height, file),
+    match record::inner::walked(file, place, layout.width * layout.height) {
+        Answer::Refused(refusal) => Answer::Refused(refusal),
+        Answer::Done => content::contents(layout, place, file),
     }
 }
 
-// The plane of a file whose head tells of this size: nothing is written before the last test.
-fn decode(width: usize, height: usize, file: &[u8], plane: &mut [u8]) -> Answer
-    requires { ⌜ Sound (layoutOf width height) ⌝ }
-    ensures { λ r. ⌜ DecodesBody (layoutOf width height) (now (file .entry)) (now (plane .entry)) r (now (plane .exit)) ⌝ }
+// The plane of a file whose head tells of this picture and ends at a place: nothing is written before the last test.
+fn decode(layout: Layout, place: usize, file: &[u8], plane: &mut [u8]) -> Answer
+    requires { ⌜ Sound layout ⌝ }
+    ensures { λ r. ⌜ DecodesBody layout place (now (file .entry)) (now (plane .entry)) r (now (plane .exit)) ⌝ }
 {
-    let count = width * height;
+    let count = layout.width * layout.height;
     if plane.len() != 256 * count {
         return Answer::Refused(Refusal::Length);
     }
-    if file.len() != 8 + 527 * count {
+    if file.len() != record::inner::file_length(count) {
         return Answer::Refused(Refusal::Form(file.len()));
     }
-    match tested(width, height, file) {
+    match tested(layout, place, file) {
         Answer::Refused(refusal) => Answer::Refused(refusal),
         Answer::Done => {
             rebuild::clear(plane);
-            rebuild::rebuild_plane(width, height, file, plane);
+            rebuild::rebuild_plane(layout, place, file, plane);
             Answer::Done
         }
     }
@@ -65,7 +63,14 @@ pub fn decode_plane(file: &[u8], plane: &mut [u8]) -> Answer
 {
     match record::read_head(file) {
         Head::Refused(refusal) => Answer::Refused(refusal),
-        Head::Legal(width, height) => decode(width, height, file, plane),
+        Head::Legal(width, height, rows, long) => {
+            let layout = Layout {
+                width: width,
+                height: height,
+                rows: rows,
+            };
+            decode(layout, long, file, plane)
+        }
     }
 }
 
@@ -87,7 +92,7 @@ pub fn code_plane(
     if plane.len() != 256 * count {
         return CodedPlane::Refused(Refusal::Length);
     }
-    if file.len() != 8 + 527 * count {
+    if file.len() != record::inner::file_length(count) {
         return CodedPlane::Refused(Refusal::Length);
     }
     if rebuilt.len() != 256 * count {
@@ -96,7 +101,7 @@ pub fn code_plane(
     let Built::Legal(quantizer) = Quantizer::new(qp) else {
         return CodedPlane::Refused(Refusal::Quantizer(0));
     };
+    let layout = picture::inner::one_slice(width, height);
     rebuild::clear(rebuilt);
-    code::code_file(width, height, quantizer, plane, file, rebuilt);
-    CodedPlane::Bytes(8 + 527 * count)
+    CodedPlane::Bytes(code::code_file(layout, quantizer, plane, file, rebuilt))
 }

@@ -1,16 +1,19 @@
 -- Reading gives back what was written.
 --     sum-own                                                the sum at the end of a summed list holds
 --     length-head, width-back, height-back, head-own, head-back     a head
---     length-front, length-record, mark-back, number-back, qp-back, mode-back, level-back, block-back, form-own    a macroblock's record
+--     Own, first-own, form-own                               a record of any kind, whatever stands behind it
+--     length-with, number-with, qp-with, level-with, sealed-with, own-with     what is written with a kind's mark and lengths is one, and is read back
+--     length-record, qp-back, mode-back, level-back, levels-back, own-record    the 4x4 kind
 --     sealed, levels-parts                                   a record whose levels stood in their place already, block by block
---     walk-own                                               the walk over records written one behind the other comes through
+--     walk-own, said-own, place-found, record-found          the walk over records one behind the other, each of any kind, comes through, and
+--                                                            each is found where what stands before it ends
 -- Assumes nothing.
 use mathlib.Core.Path.{_≡_, refl, sym, ap, _∙_}
 use mathlib.Core.Bool.{true}
-use mathlib.Core.List.{List, _++_, append-nil}
-use Prim.Native.Nat.{ℕ, zero, suc, _+_, _-_, _*_, _/_, _<_}
+use mathlib.Core.List.{List, [], _∷_, _++_, append-nil}
+use Prim.Native.Nat.{ℕ, zero, suc, _+_, _-_, _*_, _/_, _<_, _≤_}
 use native.Mathlib.Omega.{arith}
-use borrow.Author.Tests.{eq-eqb}
+use borrow.Author.Tests.{eq-eqb, le-leb}
 use lib.IntN.{ℤ, pos}
 use lib.ListN.{length, take, drop, getD, length-append, length-drop, List·getD-append}
 use lib.Seq.{take-at, getD-append-add, getD-take, getD-drop, length-take-le}
@@ -27,21 +30,25 @@ use Rattle.lists.proofs.Parts.{part-behind}
 use Rattle.lists.proofs.Tab.{tab-of}
 use Rattle.refusal.proofs.Same.{says-same}
 use Rattle.record.specs.Entry.{sizeHolds, headTests, ReadsHead}
-use Rattle.record.specs.Faults.{formTests, stepped, onward, walkOf}
+use Rattle.record.specs.Faults.{formOf, stepped, onward, walkOf, walkSaid}
+use Rattle.record.specs.Kinds.{lengthOf, inFours, known, kindOf, lengthKnown}
 use Rattle.record.specs.Modes.{packed, unpaired}
 use Rattle.record.specs.Numbers.{bytesOf, numberAt, levelBytes}
-use Rattle.record.specs.Records.{summed, sumHolds, headOf, headMark, macroblockMark, frontOf, recordOf, numberIn, qpIn, modeIn, levelIn, blockIn, recordLength, recordAt}
+use Rattle.record.specs.Records.{summed, sumHolds, headLength, headOf, headMark, frontWith, recordWith, levelOf, frontOf, recordOf, numberIn, qpIn, modeIn, levelIn, levelsIn, lengthIn, firstIn, recordAt, recordPlace}
 use Rattle.record.specs.Sum.{recordSum}
-use Rattle.record.specs.declared.Fault.{Fault}
+use Rattle.record.specs.declared.Form.the-variants.{Fine}
+use Rattle.record.specs.declared.Form.{Form}
 use Rattle.record.specs.declared.Walk.the-variants.{Whole}
 use Rattle.record.specs.declared.Head.{Head}
 use Rattle.record.specs.declared.Head.the-variants.{Legal}
+use Rattle.record.specs.declared.Kind.{Kind}
 use Rattle.record.specs.declared.Walk.{Walk}
 use Rattle.record.proofs.Forms.{fine}
 use Rattle.record.proofs.Heads.{head-legal, same-head}
 use Rattle.record.proofs.Levels.{highAt, lowAt, levels-append, length-levels, levels-by-two}
+use Rattle.record.proofs.Marks.{front-known, fours, length-there}
 use Rattle.record.proofs.Modes.{length-packed, packed-back}
-use Rattle.record.proofs.Walks.{number-drop, length-known}
+use Rattle.record.proofs.Walks.{end-known}
 
 -- ---- numbers in lists one behind the other
 
@@ -75,7 +82,7 @@ sum-own l =
 -- ---- a head, whatever stands behind it
 
 module _ (width height : ℕ) where
-  pub length-head : length (headOf width height) ≡ 8
+  pub length-head : length (headOf width height) ≡ headLength
   unfolding headOf summed
   length-head = refl
 
@@ -88,9 +95,9 @@ module _ (width height : ℕ) where
     unfolding headOf summed
     height-back = omega arith
 
-    head-sums : sumHolds (take 8 (headOf width height ++ rest)) ≡ true
+    head-sums : sumHolds (take headLength (headOf width height ++ rest)) ≡ true
     unfolding headOf
-    head-sums = rw (take-at (headOf width height) rest 8 length-head) (sum-own _)
+    head-sums = rw (take-at (headOf width height) rest headLength length-head) (sum-own _)
 
     head-marked : numberAt 0 (headOf width height ++ rest) ≡ headMark
     unfolding headOf summed
@@ -102,24 +109,113 @@ module _ (width height : ℕ) where
         (rw (width-back, height-back) s)
 
     -- what `read_head` answers, whatever its contract allows
-    pub head-back : sizeHolds width height ≡ true → (h : Head) → ReadsHead (headOf width height ++ rest) h → h ≡ Legal width height
+    pub head-back : sizeHolds width height ≡ true → (h : Head) → ReadsHead (headOf width height ++ rest) h → h ≡ Legal width height height headLength
     head-back s h p =
         let e = head-own s in
-        same-head h (Legal width height) (says-same (p .says) ∙ e)
+        same-head h (Legal width height height headLength) (says-same (p .says) ∙ e)
         (holds-new 0 e (p .width) ∙ width-back)
         (holds-new 0 e (p .height) ∙ height-back)
+        (holds-new 0 e (p .rows) ∙ height-back)
+        (holds-new 0 e (p .long))
 
--- ---- a macroblock's record
+-- ---- a record of any kind
 
-pub length-front : (number qp : ℕ) (modes : List ℕ) → length (frontOf number qp modes) ≡ 13
-unfolding frontOf
-length-front number qp modes = omega (arith, length-packed modes 8)
+-- a record with this number: its mark is a kind's, it is as long as this kind, and its sum is right
+pub record Own (number : ℕ) (bytes : List ℕ) : Type 0 where
+  pub kind : Kind
+  pub named : kindOf (numberAt 0 bytes) ≡ known kind
+  pub long : length bytes ≡ lengthOf kind
+  pub numbered : numberIn bytes ≡ number
+  pub sums : sumHolds bytes ≡ true
+
+module _ (number : ℕ) (bytes : List ℕ) (own : Own number bytes) where
+  six-own : 6 ≤ length bytes
+  six-own = omega (arith, own .long, front-known (numberAt 0 bytes) (own .kind) (own .named))
+
+  module _ (rest : List ℕ) where
+    -- whatever stands behind it, its mark says where it ends
+    length-own : lengthIn (bytes ++ rest) ≡ length bytes
+    length-own =
+        length-there (bytes ++ rest) (omega (arith, six-own, length-append bytes rest))
+        ∙ ap (λ (mark : ℕ). lengthKnown (kindOf mark)) (number-before bytes rest 0 (omega (arith, six-own)))
+        ∙ ap lengthKnown (own .named) ∙ sym (own .long)
+
+    pub first-own : firstIn (bytes ++ rest) ≡ bytes
+    first-own = rw length-own (take-at bytes rest (length bytes) refl)
+
+    pub form-own : formOf number (bytes ++ rest) ≡ Fine (length bytes)
+    form-own =
+        let l = length-own in
+        fine number (bytes ++ rest) (omega (arith, six-own, length-append bytes rest)) (omega (arith, l, six-own)) (omega (arith, l, length-append bytes rest))
+        (number-before bytes rest 2 (omega (arith, six-own)) ∙ own .numbered) (rw first-own (own .sums))
+        ∙ ap Fine l
+
+module _ (kind : Kind) (number : ℕ) (more : List ℕ) (levels : List ℤ) where
+  pub number-with : numberIn (recordWith kind number more levels) ≡ number
+  unfolding recordWith summed
+  number-with = omega arith
+
+  mark-with : numberAt 0 (recordWith kind number more levels) ≡ kind .mark
+  unfolding recordWith summed
+  mark-with = omega arith
+
+  sums-with : sumHolds (recordWith kind number more levels) ≡ true
+  unfolding recordWith
+  sums-with = sum-own (frontWith kind number more ++ levelBytes levels)
+
+  module _ (front : 4 + length more ≡ kind .front) (long : length levels ≡ kind .levels) where
+    pub length-with : length (recordWith kind number more levels) ≡ lengthOf kind
+    unfolding recordWith summed
+    length-with =
+        let f = frontWith kind number more in
+        let b = bytesOf (recordSum (f ++ levelBytes levels)) in
+        omega (arith, front, long, length-append (f ++ levelBytes levels) b, length-append f (levelBytes levels), length-levels levels)
+
+    -- a record that is written with a kind's mark and lengths is one
+    pub own-with : kindOf (kind .mark) ≡ known kind → Own number (recordWith kind number more levels)
+    own-with k = record {
+      kind = kind;
+      named = ap kindOf mark-with ∙ k;
+      long = length-with;
+      numbered = number-with;
+      sums = sums-with;
+    }
+
+    -- level i stands behind the front
+    number-in : (i : ℕ) → i < kind .levels → numberAt (kind .front + 2 * i) (recordWith kind number more levels) ≡ ofZ w16 (getD levels i (pos 0))
+    unfolding recordWith summed
+    number-in i h =
+        let F = frontWith kind number more in
+        let L = levelBytes levels in
+        let z : kind .front + 2 * i ≡ length F + 2 * i = omega (arith, front) in
+        rw z (
+        number-before (F ++ L) (bytesOf (recordSum (F ++ L))) (length F + 2 * i) (omega (arith, long, length-append F L, length-levels levels))
+        ∙ number-behind F L (2 * i)
+        ∙ number-level levels i (omega (arith, long))
+        )
+
+    pub level-with : ((k : ℕ) → SFits w16 (getD levels k (pos 0))) → (i : ℕ) → i < kind .levels → levelOf kind i (recordWith kind number more levels) ≡ getD levels i (pos 0)
+    level-with small i h = ap (toZ w16) (number-in i h) ∙ toZ-ofZ w16 (getD levels i (pos 0)) (small i)
 
 -- the levels stood in their place already
-pub sealed : (number qp : ℕ) (modes : List ℕ) (levels : List ℤ) (d : List ℕ) → take 512 (drop 13 d) ≡ levelBytes levels
-    → summed (frontOf number qp modes ++ take 512 (drop 13 d)) ≡ recordOf number qp modes levels
-unfolding recordOf
-sealed number qp modes levels d e = ap (λ (l : List ℕ). summed (frontOf number qp modes ++ l)) e
+pub sealed-with : (kind : Kind) (number : ℕ) (more : List ℕ) (levels : List ℤ) (stood : List ℕ) → stood ≡ levelBytes levels
+    → summed (frontWith kind number more ++ stood) ≡ recordWith kind number more levels
+unfolding recordWith
+sealed-with kind number more levels stood e = ap (λ (l : List ℕ). summed (frontWith kind number more ++ l)) e
+
+-- where the kind has a QP, it stands behind the number
+pub qp-with : (kind : Kind) (number qp : ℕ) (more : List ℕ) (levels : List ℤ) → qpIn (recordWith kind number (qp ∷ more) levels) ≡ qp
+unfolding recordWith summed
+qp-with kind number qp more levels = refl
+
+-- ---- a macroblock's record, 4x4
+
+-- the levels stood in their place already
+pub sealed : (number qp : ℕ) (modes : List ℕ) (levels : List ℤ) (d : List ℕ) → take (2 * inFours .levels) (drop (inFours .front) d) ≡ levelBytes levels
+    → summed (frontOf number qp modes ++ take (2 * inFours .levels) (drop (inFours .front) d)) ≡ recordOf number qp modes levels
+unfolding recordOf frontOf
+sealed number qp modes levels d e =
+    sealed-with inFours number ((qp ∷ []) ++ packed 8 modes) levels (take (2 * inFours .levels) (drop (inFours .front) d)) e
 
 -- block by block
 pub levels-parts : (n : ℕ) (blocks : ℕ → List ℤ) → levelBytes (parts n blocks) ≡ parts n (λ b. levelBytes (blocks b))
@@ -128,38 +224,12 @@ levels-parts zero blocks = refl
 levels-parts (suc n) blocks = levels-append (parts n blocks) (blocks n) ∙ ap (λ (l : List ℕ). l ++ levelBytes (blocks n)) (levels-parts n blocks)
 
 module _ (number qp : ℕ) (modes : List ℕ) (levels : List ℤ) where
-  pub length-record : length levels ≡ 256 → length (recordOf number qp modes levels) ≡ 527
-  unfolding recordOf summed
-  length-record e =
-      let f = frontOf number qp modes in
-      let b = bytesOf (recordSum (f ++ levelBytes levels)) in
-      omega (arith, length-append (f ++ levelBytes levels) b, length-append f (levelBytes levels), length-front number qp modes, length-levels levels)
-
-  pub mark-back : (rest : List ℕ) → numberAt 0 (recordOf number qp modes levels ++ rest) ≡ macroblockMark
-  unfolding recordOf summed frontOf
-  mark-back rest = refl
-
-  pub number-back : numberIn (recordOf number qp modes levels) ≡ number
-  unfolding recordOf summed frontOf
-  number-back = omega arith
-
   pub qp-back : qpIn (recordOf number qp modes levels) ≡ qp
-  unfolding recordOf summed frontOf
-  qp-back = refl
-
-  sums-own : sumHolds (recordOf number qp modes levels) ≡ true
   unfolding recordOf
-  sums-own = sum-own (frontOf number qp modes ++ levelBytes levels)
-
-  marked-own : numberAt 0 (recordOf number qp modes levels) ≡ macroblockMark
-  unfolding recordOf summed frontOf
-  marked-own = refl
-
-  pub form-own : chain (formTests number (recordOf number qp modes levels)) ≡ pass
-  form-own = fine number (recordOf number qp modes levels) marked-own number-back sums-own
+  qp-back = qp-with inFours number qp (packed 8 modes) levels
 
   pub mode-back : ((k : ℕ) → getD modes k 0 < 16) → (block : ℕ) → block < 16 → modeIn block (recordOf number qp modes levels) ≡ getD modes block 0
-  unfolding recordOf summed frontOf
+  unfolding recordOf recordWith summed frontOf
   mode-back small block h =
       let R = recordOf number qp modes levels in
       let P = packed 8 modes in
@@ -171,67 +241,68 @@ module _ (number qp : ℕ) (modes : List ℕ) (levels : List ℤ) where
       ∙ List·getD-append P (levelBytes levels) 0 (block / 2) (omega arith) in
       ap (unpaired block) a ∙ packed-back modes small 8 block (omega arith)
 
-  module _ (long : length levels ≡ 256) where
-    -- level k of a block stands behind the front
-    number-in : (block k : ℕ) → block < 16 → k < 16 → numberAt (13 + 32 * block + 2 * k) (recordOf number qp modes levels) ≡ ofZ w16 (getD levels (16 * block + k) (pos 0))
-    unfolding recordOf summed
-    number-in block k h l =
-        let F = frontOf number qp modes in
-        let L = levelBytes levels in
-        let f = length-front number qp modes in
-        let z : 13 + 32 * block + 2 * k ≡ length F + 2 * (16 * block + k) = omega arith in
-        rw z (
-        number-before (F ++ L) (bytesOf (recordSum (F ++ L))) (length F + 2 * (16 * block + k)) (omega (arith, length-append F L, length-levels levels))
-        ∙ number-behind F L (2 * (16 * block + k))
-        ∙ number-level levels (16 * block + k) (omega arith)
-        )
+  fours-front : 4 + length ((qp ∷ []) ++ packed 8 modes) ≡ inFours .front
+  fours-front = omega (arith, length-packed modes 8)
+
+  module _ (long : length levels ≡ inFours .levels) where
+    pub length-record : length (recordOf number qp modes levels) ≡ lengthOf inFours
+    unfolding recordOf
+    length-record = length-with inFours number ((qp ∷ []) ++ packed 8 modes) levels fours-front long
+
+    pub own-record : Own number (recordOf number qp modes levels)
+    unfolding recordOf
+    own-record = own-with inFours number ((qp ∷ []) ++ packed 8 modes) levels fours-front long fours
 
     module _ (small : (k : ℕ) → SFits w16 (getD levels k (pos 0))) where
       pub level-back : (block k : ℕ) → block < 16 → k < 16 → levelIn block k (recordOf number qp modes levels) ≡ getD levels (16 * block + k) (pos 0)
-      level-back block k h l = ap (toZ w16) (number-in block k h l) ∙ toZ-ofZ w16 (getD levels (16 * block + k) (pos 0)) (small (16 * block + k))
+      unfolding recordOf
+      level-back block k h l = level-with inFours number ((qp ∷ []) ++ packed 8 modes) levels fours-front long small (16 * block + k) (omega arith)
 
-      pub block-back : (block : ℕ) → block < 16 → blockIn block (recordOf number qp modes levels) ≡ take 16 (drop (16 * block) levels)
-      unfolding blockIn
-      block-back block h =
+      pub levels-back : (block : ℕ) → block < 16 → levelsIn block (recordOf number qp modes levels) ≡ take 16 (drop (16 * block) levels)
+      unfolding levelsIn
+      levels-back block h =
           tab-of 16 (λ k. levelIn block k (recordOf number qp modes levels)) (take 16 (drop (16 * block) levels)) (pos 0)
           (length-take-le 16 (drop (16 * block) levels) (omega (arith, length-drop (16 * block) levels)))
           (λ k l. level-back block k h l ∙ sym (getD-take 16 (drop (16 * block) levels) k (pos 0) l ∙ getD-drop (16 * block) levels k (pos 0)))
 
-    -- the record is found where it begins
-    pub record-back : (file rest : List ℕ) (place : ℕ) → drop place file ≡ recordOf number qp modes levels ++ rest → recordAt place file ≡ recordOf number qp modes levels
-    unfolding recordAt recordLength
-    record-back file rest place e =
-        let m : numberAt place file ≡ macroblockMark = sym (number-drop file place) ∙ ap (numberAt 0) e ∙ mark-back rest in
-        rw (m, e) (take-at (recordOf number qp modes levels) rest 527 (length-record long))
+-- ---- records one behind the other, each of any kind
 
--- ---- records one behind the other
+module _ (head : List ℕ) (made : ℕ → List ℕ) (n : ℕ) (own : (k : ℕ) → k < n → Own k (made k)) where
+  -- where record k begins: what stands before it ends there
+  abbrev placeOf : ℕ → ℕ
+  placeOf k = length (head ++ parts k made)
 
-module _ (head : List ℕ) (qps : ℕ → ℕ) (modes : ℕ → List ℕ) (levels : ℕ → List ℤ) where
-  -- record k, and the file up to it
-  abbrev pub own : ℕ → List ℕ
-  own k = recordOf k (qps k) (modes k) (levels k)
+  step-own : (k : ℕ) → k < n → (w : Walk) → w ≡ Whole (placeOf k) → onward (head ++ parts n made) k w ≡ Whole (placeOf (suc k))
+  unfolding parts
+  step-own k h w e =
+      let file = head ++ parts n made in
+      let z : placeOf k + length (made k) ≡ length (head ++ (parts k made ++ made k)) =
+      omega (arith, length-append head (parts k made), length-append head (parts k made ++ made k), length-append (parts k made) (made k)) in
+      ap (onward file k) e
+      ∙ ap (λ (f : Form). stepped f (placeOf k))
+      (ap (formOf k) (part-behind head n k made h) ∙ form-own k (made k) (own k h) (parts (n - suc k) (λ i. made (suc k + i))))
+      ∙ ap Whole z
 
-  module _ (n : ℕ) (long : (k : ℕ) → k < n → length (levels k) ≡ 256) where
-    pub own-at : (k : ℕ) → k < n → recordAt (length (head ++ parts k own)) (head ++ parts n own) ≡ own k
-    own-at k h =
-        record-back k (qps k) (modes k) (levels k) (long k h) (head ++ parts n own) (parts (n - suc k) (λ i. own (suc k + i))) (length (head ++ parts k own))
-        (part-behind head n k own h)
+  walk-to : (m : ℕ) → m ≤ n → walkOf m (head ++ parts n made) (length head) ≡ Whole (placeOf m)
+  unfolding walkOf parts
+  walk-to m h =
+      fold-keeps (λ k w. w ≡ Whole (placeOf k)) m (onward (head ++ parts n made)) (Whole (length head))
+      (sym (ap (λ (l : List ℕ). Whole (length l)) (append-nil head)))
+      (λ k l e. step-own k (omega arith) (fold k (onward (head ++ parts n made)) (Whole (length head))) e)
 
-    step-own : (k : ℕ) → k < n → (w : Walk) → w ≡ Whole (length (head ++ parts k own))
-        → onward (head ++ parts n own) k w ≡ Whole (length (head ++ parts (suc k) own))
-    unfolding parts
-    step-own k h w e =
-        let file = head ++ parts n own in
-        let place = length (head ++ parts k own) in
-        let v : chain (formTests k (recordAt (length (head ++ parts k own)) (head ++ parts n own))) ≡ pass = rw (own-at k h) (form-own k (qps k) (modes k) (levels k)) in
-        let l = length-known file k place v in
-        let z : place + recordLength (numberAt place file) ≡ length (head ++ (parts k own ++ own k)) =
-        omega (arith, l, length-append head (parts k own), length-append head (parts k own ++ own k), length-append (parts k own) (own k), length-record k (qps k) (modes k) (levels k) (long k h)) in
-        ap (onward file k) e ∙ ap (λ (d : Verdict Fault). stepped d place (place + recordLength (numberAt place file))) v ∙ ap Whole z
+  pub walk-own : walkOf n (head ++ parts n made) (length head) ≡ Whole (length (head ++ parts n made))
+  walk-own = walk-to n (omega arith)
 
-    pub walk-own : walkOf n (head ++ parts n own) (length head) ≡ Whole (length (head ++ parts n own))
-    unfolding walkOf parts
-    walk-own =
-        fold-keeps (λ k w. w ≡ Whole (length (head ++ parts k own))) n (onward (head ++ parts n own)) (Whole (length head))
-        (sym (ap (λ (l : List ℕ). Whole (length l)) (append-nil head)))
-        (λ k l e. step-own k l (fold k (onward (head ++ parts n own)) (Whole (length head))) e)
+  -- nothing is sent back: all records are fine and nothing is left
+  pub said-own : walkSaid (head ++ parts n made) (walkOf n (head ++ parts n made) (length head)) ≡ pass
+  said-own = rw walk-own (simp (le-leb (length (head ++ parts n made)) (length (head ++ parts n made)) (omega arith)))
+
+  -- record m is found where what stands before it ends, and is the one that was written
+  pub place-found : (m : ℕ) → m ≤ n → recordPlace m (head ++ parts n made) (length head) ≡ length (head ++ parts m made)
+  place-found m h = sym (end-known (head ++ parts n made) (length head) m (placeOf m) (walk-to m h))
+
+  pub record-found : (m : ℕ) → m < n → recordAt (recordPlace m (head ++ parts n made) (length head)) (head ++ parts n made) ≡ made m
+  unfolding recordAt
+  record-found m h =
+      ap (λ (place : ℕ). firstIn (drop place (head ++ parts n made))) (place-found m (omega arith))
+      ∙ ap firstIn (part-behind head n m made h) ∙ first-own m (made m) (own m h) (parts (n - suc m) (λ i. made (suc m + i)))

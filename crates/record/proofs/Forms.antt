@@ -1,42 +1,103 @@
 -- What the tests of a record's form come to.
---     mark-wrong, number-wrong, sum-wrong, fine      the four verdicts
---     passed-mark                                    a record whose form is fine has its mark
---     same-form                                      an answer is known by what it says
+--     cut-mark, mark-wrong, cut-rest, number-wrong, sum-wrong, fine      the six verdicts
+--     FineForm, passed-sound, fine-sound                                    what is known of a record whose form is fine
+--     formed-pass                                                        a form by its verdict
 -- Assumes nothing.
-use mathlib.Core.Path.{_≡_, refl, ap}
+use mathlib.Core.Path.{_≡_, refl, sym, ap, _∙_}
 use mathlib.Core.Bool.{true, false}
 use mathlib.Core.List.{List}
-use Prim.Native.Nat.{ℕ}
-use borrow.Author.Tests.{eq-eqb, ne-eqb, eqb-true}
-use Rattle.lists.specs.Chain.{pass, stop, chain}
+use Prim.Native.Nat.{ℕ, _<_, _≤_}
+use native.Mathlib.Omega.{arith}
+use borrow.Author.Tests.{eq-eqb, ne-eqb, le-leb, lt-leb, eqb-true, leb-true}
+use lib.ListN.{length}
+use Rattle.lists.specs.Chain.{Verdict, pass, stop, chain}
 use Rattle.lists.proofs.Chain.{chain-exactly-if}
-use Rattle.record.specs.Faults.{formTests, formSaid}
+use Rattle.record.specs.Faults.{formTests, formed, formOf}
+use Rattle.record.specs.Kinds.{lengthOf, known, kindOf, isKnown, lengthKnown, recordLength}
 use Rattle.record.specs.Numbers.{numberAt}
-use Rattle.record.specs.Records.{macroblockMark, numberIn, sumHolds}
-use Rattle.record.specs.declared.Fault.the-variants.{Mark, Number, Sum}
+use Rattle.record.specs.Records.{numberIn, sumHolds, lengthIn, firstIn}
+use Rattle.record.specs.declared.Fault.the-variants.{CutMark, Mark, CutRest, Number, Sum}
+use Rattle.record.specs.declared.Fault.{Fault}
 use Rattle.record.specs.declared.Form.the-variants.{Fine, Faulty}
-use Rattle.record.specs.declared.Form.{Form}
+use Rattle.record.specs.declared.Kind.{Kind}
+use Rattle.record.proofs.Marks.{unknown-none, known-some, length-known, kind-known, length-there}
+
+pub fine-not-faulty : {long : ℕ} {fault : Fault} → Fine long ≡ Faulty fault → ⊥
+fine-not-faulty e = let z : _≡_ {A = ℕ} 0 1 = cc in omega arith
 
 module _ (number : ℕ) (bytes : List ℕ) where
-  pub mark-wrong : (numberAt 0 bytes ≡ macroblockMark → ⊥) → chain (formTests number bytes) ≡ stop Mark
-  mark-wrong e = simp (ne-eqb (numberAt 0 bytes) macroblockMark e)
+  -- what is known of a record whose form is fine
+  pub record FineForm : Type 0 where
+    pub kind : Kind
+    pub named : kindOf (numberAt 0 bytes) ≡ known kind
+    pub long : lengthIn bytes ≡ lengthOf kind
+    pub some : 6 ≤ lengthIn bytes
+    pub room : lengthIn bytes ≤ length bytes
+    pub own : numberIn bytes ≡ number
+    pub sum : sumHolds (firstIn bytes) ≡ true
 
-  pub passed-mark : chain (formTests number bytes) ≡ pass → numberAt 0 bytes ≡ macroblockMark
-  passed-mark e = eqb-true (numberAt 0 bytes) macroblockMark (chain-exactly-if (formTests number bytes) .passes .0 e .0)
+  pub cut-mark : length bytes < 2 → formOf number bytes ≡ Faulty CutMark
+  unfolding formOf
+  cut-mark h = simp (lt-leb 2 (length bytes) h)
 
-  module _ (mark : numberAt 0 bytes ≡ macroblockMark) where
-    pub number-wrong : (numberIn bytes ≡ number → ⊥) → chain (formTests number bytes) ≡ stop Number
-    number-wrong e = simp (eq-eqb (numberAt 0 bytes) macroblockMark mark, ne-eqb (numberIn bytes) number e)
+  module _ (two : 2 ≤ length bytes) where
+    by-mark : lengthIn bytes ≡ recordLength (numberAt 0 bytes)
+    by-mark = length-there bytes two
 
-    module _ (own : numberIn bytes ≡ number) where
-      pub sum-wrong : sumHolds bytes ≡ false → chain (formTests number bytes) ≡ stop Sum
-      sum-wrong e = simp (eq-eqb (numberAt 0 bytes) macroblockMark mark, eq-eqb (numberIn bytes) number own, e)
+    pub mark-wrong : lengthIn bytes < 1 → formOf number bytes ≡ Faulty Mark
+    unfolding formOf
+    mark-wrong e = simp (le-leb 2 (length bytes) two, unknown-none (numberAt 0 bytes) (omega (arith, by-mark)))
 
-      pub fine : sumHolds bytes ≡ true → chain (formTests number bytes) ≡ pass
-      fine e = simp (eq-eqb (numberAt 0 bytes) macroblockMark mark, eq-eqb (numberIn bytes) number own, e)
+    module _ (mark : 1 ≤ lengthIn bytes) where
+      marked : isKnown (kindOf (numberAt 0 bytes)) ≡ true
+      marked = known-some (numberAt 0 bytes) (omega (arith, by-mark))
 
-pub same-form : (x y : Form) → formSaid x ≡ formSaid y → x ≡ y
-same-form Fine Fine e = refl
-same-form Fine (Faulty g) e = cc
-same-form (Faulty f) Fine e = cc
-same-form (Faulty f) (Faulty g) e = let q : f ≡ g = cc in ap Faulty q
+      pub cut-rest : length bytes < lengthIn bytes → formOf number bytes ≡ Faulty CutRest
+      unfolding formOf
+      cut-rest h = simp (le-leb 2 (length bytes) two, marked, lt-leb (lengthIn bytes) (length bytes) h)
+
+      module _ (room : lengthIn bytes ≤ length bytes) where
+        pub number-wrong : (numberIn bytes ≡ number → ⊥) → formOf number bytes ≡ Faulty Number
+        unfolding formOf
+        number-wrong e =
+            simp (le-leb 2 (length bytes) two, marked, le-leb (lengthIn bytes) (length bytes) room, ne-eqb (numberIn bytes) number e)
+
+        module _ (own : numberIn bytes ≡ number) where
+          pub sum-wrong : sumHolds (firstIn bytes) ≡ false → formOf number bytes ≡ Faulty Sum
+          unfolding formOf
+          sum-wrong e =
+              simp (le-leb 2 (length bytes) two, marked, le-leb (lengthIn bytes) (length bytes) room, eq-eqb (numberIn bytes) number own, e)
+
+          pub fine : sumHolds (firstIn bytes) ≡ true → formOf number bytes ≡ Fine (lengthIn bytes)
+          unfolding formOf
+          fine e =
+              simp (le-leb 2 (length bytes) two, marked, le-leb (lengthIn bytes) (length bytes) room, eq-eqb (numberIn bytes) number own, e)
+
+  -- ---- a form by its verdict
+
+  pub formed-pass : (long : ℕ) → formOf number bytes ≡ Fine long → (chain (formTests number bytes) ≡ pass) × (long ≡ lengthIn bytes)
+  unfolding formOf
+  formed-pass long e = by (chain (formTests number bytes)) refl e
+    where
+      by : (v : Verdict Fault) → chain (formTests number bytes) ≡ v → formed v (lengthIn bytes) ≡ Fine long
+          → (chain (formTests number bytes) ≡ pass) × (long ≡ lengthIn bytes)
+      by pass p q = (p, cc)
+      by (stop f) p q = absurd (fine-not-faulty (sym q))
+
+  pub passed-sound : chain (formTests number bytes) ≡ pass → FineForm
+  passed-sound v =
+      let a = chain-exactly-if (formTests number bytes) .passes .0 v in
+      let l = length-there bytes (leb-true 2 (length bytes) (a .0)) in
+      let k = kind-known (numberAt 0 bytes) (a .1 .0) in
+      record {
+        kind = k .0;
+        named = k .1;
+        long = l ∙ ap lengthKnown (k .1);
+        some = omega (arith, l, length-known (numberAt 0 bytes) (a .1 .0));
+        room = leb-true (lengthIn bytes) (length bytes) (a .1 .1 .0);
+        own = eqb-true (numberIn bytes) number (a .1 .1 .1 .0);
+        sum = a .1 .1 .1 .1 .0;
+      }
+
+  pub fine-sound : (long : ℕ) → formOf number bytes ≡ Fine long → (long ≡ lengthIn bytes) × FineForm
+  fine-sound long e = let v = formed-pass long e in (v .1, passed-sound (v .0))

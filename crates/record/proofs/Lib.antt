@@ -3,8 +3,10 @@ pub mod Bits
 pub mod Forms
 pub mod Heads
 pub mod Levels
+pub mod Marks
 pub mod Modes
 pub mod Sums
+pub mod Uncut
 pub mod Unique
 pub mod Walks
 pub mod Witness

@@ -1,78 +1,81 @@
 -- The walk over records.
 --     number-drop                a number from a place on
---     length-known               a record whose form is fine is as long as its mark says
+--     fine-inside                a record whose form is fine ends inside the file
+--     said-broken, said-left, said-done     what a walk sends back
 --     walk-more                  one record more
---     walk-step                  the same by the next 527 bytes, where there are as many
 --     walk-stays                 a walk that a fault has stopped stays where it is
 --     walk-stands                it stands at the place of the next record, or a fault has stopped it
---     walk-breaks-exactly-if     it stops at a record exactly if this one is faulty and none before it is
 --     walk-whole-exactly-if      it comes through exactly if every record's form is fine
---     place-known, record-known, end-known     a walk that came through went by steps of 527: what code needs to lend record m
+--     walk-breaks-exactly-if     it stops at a record exactly if this one is faulty and none before it is
+--     form-passes-exactly-if, form-refuses-exactly-if     what is sent back: the first fault, or that bytes are left
+--     place-none, place-more, place-next     where the first record begins, and the next
+--     end-known, record-sound, record-inside, Lent, lent, lent-fours     what code needs to lend record m of a walk that came through
 -- Assumes nothing.
-use mathlib.Core.Path.{_≡_, refl, sym, ap, _∙_}
-use mathlib.Core.Bool.{Bool, true, false, cond}
+use mathlib.Core.Path.{_≡_, refl, sym, ap, subst, _∙_}
 use mathlib.Core.List.{List}
 use mathlib.Core.Logic.{_⊎_, inl, inr, ⊎-elim, _↔_}
-use Prim.Native.Nat.{ℕ, zero, suc, _+_, _-_, _*_, _<_, _≤_}
+use Prim.Native.Nat.{ℕ, zero, suc, _+_, _-_, _<_, _≤_}
 use native.Mathlib.Numerals.{add-one}
 use native.Mathlib.Omega.{arith}
-use borrow.Author.Tests.{eqb-false}
-use lib.Dec.{eqb}
-use lib.ListN.{take, drop}
-use lib.Seq.{getD-take, getD-drop}
+use borrow.Author.Tests.{le-leb, lt-leb, leb-true, leb-false}
+use lib.ListN.{length, take, drop, length-drop}
+use lib.Seq.{getD-drop, length-take-le}
 use Rattle.lists.specs.Chain.{Verdict, pass, stop, chain}
 use Rattle.lists.specs.Fold.{fold}
+use Rattle.lists.proofs.Chain.{RefusedWith, pass-not-stop, chain-exactly-if}
 use Rattle.lists.proofs.Fold.{fold-more}
-use Rattle.record.specs.Faults.{formTests, stepped, onward, walkOf}
+use Rattle.refusal.specs.declared.Refusal.{Refusal}
+use Rattle.record.specs.Faults.{formTests, formed, formOf, stepped, onward, walkOf, refusalOf, surplus, leftTests, walkSaid}
+use Rattle.record.specs.Kinds.{lengthOf, inFours, known, kindOf}
 use Rattle.record.specs.Numbers.{numberAt}
-use Rattle.record.specs.Records.{macroblockMark, recordLength, recordAt, recordPlace}
+use Rattle.record.specs.Records.{lengthFrom, recordAt, recordPlace}
 use Rattle.record.specs.declared.Fault.{Fault}
+use Rattle.record.specs.declared.Form.the-variants.{Fine}
+use Rattle.record.specs.declared.Kind.{Kind}
+use Rattle.record.specs.declared.Walk.{Walk}
 use Rattle.record.specs.declared.Walk.the-variants.{Whole, Broken}
-use Rattle.record.proofs.Forms.{mark-wrong, passed-mark}
+use Rattle.record.proofs.Forms.{FineForm, passed-sound, fine-sound}
+use Rattle.record.proofs.Marks.{only-fours}
 
 -- a number from a place on
-pub number-drop : (file : List ℕ) (place : ℕ) → numberAt 0 (drop place file) ≡ numberAt place file
-number-drop file place =
-    let p : place + 0 ≡ place = omega arith in
-    omega (arith, rw p at (getD-drop place file 0 0), getD-drop place file 1 0)
+pub number-drop : (file : List ℕ) (place k : ℕ) → numberAt k (drop place file) ≡ numberAt (place + k) file
+number-drop file place k =
+    let z : place + (k + 1) ≡ place + k + 1 = omega arith in
+    omega (arith, getD-drop place file k 0, rw z at (getD-drop place file (k + 1) 0))
 
--- and in the first n bytes from there on
-number-part : (file : List ℕ) (place n : ℕ) → 1 < n → numberAt 0 (take n (drop place file)) ≡ numberAt place file
-number-part file place n h =
-    let a = getD-take n (drop place file) 0 0 (omega arith) in
-    let b = getD-take n (drop place file) 1 0 (omega arith) in
-    omega (arith, a, b, number-drop file place)
+pub mark-drop : (file : List ℕ) (place : ℕ) → numberAt 0 (drop place file) ≡ numberAt place file
+mark-drop file place = let z : place + 0 ≡ place = omega arith in rw z at (number-drop file place 0)
 
 whole-not-broken : {place other : ℕ} {fault : Fault} → Whole place ≡ Broken fault other → ⊥
 whole-not-broken e = let z : _≡_ {A = ℕ} 0 1 = cc in omega arith
 
+-- ---- what is sent back of a file
+
 module _ (file : List ℕ) where
-  -- a record whose form is fine is as long as its mark says
-  pub length-known : (number place : ℕ) → chain (formTests number (recordAt place file)) ≡ pass → recordLength (numberAt place file) ≡ 527
-  unfolding recordAt recordLength
-  length-known number place e =
-      by (eqb (numberAt place file) macroblockMark)
-      (passed-mark number (take (cond (eqb (numberAt place file) macroblockMark) 527 0) (drop place file)) e)
-    where
-      by : (known : Bool) → numberAt 0 (take (cond known 527 0) (drop place file)) ≡ macroblockMark → _≡_ {A = ℕ} (cond known 527 0) 527
-      by true q = refl
-      by false q = absurd (omega (arith, q))
+  -- what a walk that a fault has stopped sends back
+  pub said-broken : {w : Walk} {fault : Fault} {place : ℕ} → w ≡ Broken fault place → {long : ℕ} → long ≡ lengthFrom place file
+      → {r : Refusal} → r ≡ refusalOf fault place long (length file) → walkSaid file w ≡ stop r
+  said-broken {w} {fault} {place} e {long} l {r} q = rw (e, q, l)
+
+  -- and one that came through
+  pub said-left : (end : ℕ) → end < length file → (w : Walk) → w ≡ Whole end → walkSaid file w ≡ stop (surplus (length file))
+  said-left end h w e = rw e (simp (lt-leb (length file) end h))
+
+  pub said-done : (end : ℕ) → length file ≤ end → (w : Walk) → w ≡ Whole end → walkSaid file w ≡ pass
+  said-done end h w e = rw e (simp (le-leb (length file) end h))
+
+-- ---- the walk
+
+module _ (file : List ℕ) where
+  -- a record whose form is fine ends inside the file
+  pub fine-inside : (number place long : ℕ) → formOf number (drop place file) ≡ Fine long → (6 ≤ long) × (place + long ≤ length file)
+  fine-inside number place long e =
+      let s = fine-sound number (drop place file) long e in
+      (omega (arith, s .0, s .1 .some), omega (arith, s .0, s .1 .some, s .1 .room, length-drop place file))
 
   pub walk-more : (n start : ℕ) → walkOf (n + 1) file start ≡ onward file n (walkOf n file start)
   unfolding walkOf
   walk-more n start = fold-more n (onward file) (Whole start)
-
-  -- the record at a place has a mark, or it is empty and has none
-  by-mark : (number place : ℕ) (known : Bool) → eqb (numberAt place file) macroblockMark ≡ known
-      → stepped (chain (formTests number (take (cond known 527 0) (drop place file)))) place (place + cond known 527 0)
-      ≡ stepped (chain (formTests number (take 527 (drop place file)))) place (place + 527)
-  by-mark number place true e = refl
-  by-mark number place false e =
-      rw (mark-wrong number (take 527 (drop place file)) (λ q. eqb-false (numberAt place file) macroblockMark e (sym (number-part file place 527 (omega arith)) ∙ q)))
-
-  pub walk-step : (number place : ℕ) → onward file number (Whole place) ≡ stepped (chain (formTests number (take 527 (drop place file)))) place (place + 527)
-  unfolding recordAt recordLength
-  walk-step number place = by-mark number place (eqb (numberAt place file) macroblockMark) refl
 
   stays : (n start : ℕ) {fault : Fault} {place : ℕ} → walkOf n file start ≡ Broken fault place → (d : ℕ) → walkOf (n + d) file start ≡ Broken fault place
   stays n start {fault} {place} e zero = let z : n + zero ≡ n = omega arith in rw z e
@@ -83,32 +86,56 @@ module _ (file : List ℕ) where
   pub walk-stays : (n m start : ℕ) {fault : Fault} {place : ℕ} → n ≤ m → walkOf n file start ≡ Broken fault place → walkOf m file start ≡ Broken fault place
   walk-stays n m start {fault} {place} h e = let z : n + (m - n) ≡ m = omega arith in rw z at (stays n start e (m - n))
 
+  -- a record of a known kind that begins at a place and is so long, and is all there
+  pub record Lent (place long : ℕ) : Type 0 where
+    pub kind : Kind
+    pub named : kindOf (numberAt place file) ≡ known kind
+    pub is-long : long ≡ lengthOf kind
+    pub inside : place + long ≤ length file
+    pub part : take (place + long - place) (drop place file) ≡ recordAt place file
+    pub all : length (recordAt place file) ≡ lengthOf kind
+
+  -- while there is one kind, it is this one
+  pub lent-fours : {place long : ℕ} → Lent place long → length (take (place + long - place) (drop place file)) ≡ lengthOf inFours
+  lent-fours {place} {long} l = ap length (l .part) ∙ l .all ∙ ap lengthOf (only-fours (numberAt place file) (l .kind) (l .named))
+
   -- ---- where a walk stands
 
   module _ (start : ℕ) where
-    -- record m's verdict, where the walk finds it
+    -- what record m's own tests say, at its own place
     abbrev pub verdictAt : ℕ → Verdict Fault
-    verdictAt m = chain (formTests m (recordAt (recordPlace m file start) file))
+    verdictAt m = chain (formTests m (drop (recordPlace m file start) file))
 
     -- a fault has stopped the walk
     abbrev pub Stopped : ℕ → Type 0
     Stopped n = (fault : Fault) × (place : ℕ) × (walkOf n file start ≡ Broken fault place)
 
-    -- one record more, from where the walk stands
-    next : (m : ℕ) → walkOf m file start ≡ Whole (recordPlace m file start)
-        → walkOf (m + 1) file start ≡ stepped (verdictAt m) (recordPlace m file start) (recordPlace (m + 1) file start)
+    pub place-none : recordPlace 0 file start ≡ start
+    unfolding recordPlace fold
+    place-none = refl
+
+    pub place-more : (m : ℕ) → recordPlace (m + 1) file start ≡ recordPlace m file start + lengthFrom (recordPlace m file start) file
     unfolding recordPlace
-    next m e =
-        walk-more m start ∙ ap (onward file m) e
-        ∙ ap (stepped (verdictAt m) (recordPlace m file start)) (sym (fold-more m (λ k place. place + recordLength (numberAt place file)) start))
+    place-more m = fold-more m (λ k place. place + lengthFrom place file) start
+
+    -- where code stands that adds up lengths
+    pub place-next : (m : ℕ) {place : ℕ} → place ≡ recordPlace m file start → {long : ℕ} → long ≡ lengthFrom place file → place + long ≡ recordPlace (m + 1) file start
+    place-next m {place} p {long} l = rw (l, p) (sym (place-more m))
+
+    -- one record more, from where the walk stands
+    abbrev went : ℕ → Verdict Fault → Walk
+    went m v = stepped (formed v (lengthFrom (recordPlace m file start) file)) (recordPlace m file start)
+
+    next : (m : ℕ) → walkOf m file start ≡ Whole (recordPlace m file start) → walkOf (m + 1) file start ≡ went m (verdictAt m)
+    unfolding formOf
+    next m e = walk-more m start ∙ ap (onward file m) e
 
     pub walk-stands : (m : ℕ) → (walkOf m file start ≡ Whole (recordPlace m file start)) ⊎ Stopped m
     unfolding walkOf recordPlace fold
     walk-stands zero = inl refl
     walk-stands (suc m) = ⊎-elim (λ e. by (verdictAt m) (rw (add-one m) at (next m e))) (λ s. inr (s .0, s .1, ap (onward file m) (s .2))) (walk-stands m)
       where
-        by : (v : Verdict Fault) → walkOf (suc m) file start ≡ stepped v (recordPlace m file start) (recordPlace (suc m) file start)
-            → (walkOf (suc m) file start ≡ Whole (recordPlace (suc m) file start)) ⊎ Stopped (suc m)
+        by : (v : Verdict Fault) → walkOf (suc m) file start ≡ went m v → (walkOf (suc m) file start ≡ Whole (recordPlace (suc m) file start)) ⊎ Stopped (suc m)
         by pass e = inl e
         by (stop f) e = inr (f, recordPlace m file start, e)
 
@@ -117,16 +144,32 @@ module _ (file : List ℕ) where
     reached n m {end} h e =
         ⊎-elim (λ q. q) (λ s. absurd (whole-not-broken (sym e ∙ walk-stays m n start h (s .2)))) (walk-stands m)
 
-    -- ---- the two theorems
+    -- ---- it comes through exactly if every record's own tests pass
 
-    -- record m, at this place, has this fault, and the walk came through all before it
+    whole-only : (n : ℕ) {end : ℕ} → walkOf n file start ≡ Whole end → (m : ℕ) → m < n → verdictAt m ≡ pass
+    whole-only n {end} e m h =
+        by (verdictAt m) (sym (next m (reached n m (omega arith) e)) ∙ reached n (m + 1) (omega arith) e)
+      where
+        by : (v : Verdict Fault) → went m v ≡ Whole (recordPlace (m + 1) file start) → v ≡ pass
+        by pass d = refl
+        by (stop f) d = absurd (whole-not-broken (sym d))
+
+    whole-if : (n : ℕ) → ((m : ℕ) → m < n → verdictAt m ≡ pass) → walkOf n file start ≡ Whole (recordPlace n file start)
+    unfolding walkOf recordPlace fold
+    whole-if zero h = refl
+    whole-if (suc n) h = (rw (add-one n) at (next n (whole-if n (λ m l. h m (omega arith))))) ∙ ap (went n) (h n (omega arith))
+
+    pub walk-whole-exactly-if : (n : ℕ) → (walkOf n file start ≡ Whole (recordPlace n file start)) ↔ ((m : ℕ) → m < n → verdictAt m ≡ pass)
+    walk-whole-exactly-if n = (whole-only n, whole-if n)
+
+    -- ---- it stops at a record exactly if this one's own tests say this fault, and those of all before it pass
+
     abbrev pub FirstFault : ℕ → Fault → ℕ → Type 0
-    FirstFault n fault place = (m : ℕ) × (m < n) × (walkOf m file start ≡ Whole place) × (chain (formTests m (recordAt place file)) ≡ stop fault)
+    FirstFault n fault place = (m : ℕ) × (m < n) × (place ≡ recordPlace m file start) × ((k : ℕ) → k < m → verdictAt k ≡ pass) × (verdictAt m ≡ stop fault)
 
     breaks-if : (n : ℕ) (fault : Fault) (place : ℕ) → FirstFault n fault place → walkOf n file start ≡ Broken fault place
-    breaks-if n fault place (m, h, e, v) =
-        walk-stays (m + 1) n start (omega arith)
-        (walk-more m start ∙ ap (onward file m) e ∙ ap (λ (w : Verdict Fault). stepped w place (place + recordLength (numberAt place file))) v)
+    breaks-if n fault place (m, h, p, f, v) =
+        walk-stays (m + 1) n start (omega arith) (next m (whole-if m f) ∙ ap (went m) v ∙ ap (Broken fault) (sym p))
 
     breaks-only : (n : ℕ) (fault : Fault) (place : ℕ) → walkOf n file start ≡ Broken fault place → FirstFault n fault place
     unfolding walkOf fold
@@ -138,52 +181,91 @@ module _ (file : List ℕ) where
         (walk-stands n)
       where
         later : FirstFault n fault place → FirstFault (suc n) fault place
-        later (m, h, q, v) = (m, omega arith, q, v)
+        later (m, h, p, f, v) = (m, omega arith, p, f, v)
 
-        by : (v : Verdict Fault) → verdictAt n ≡ v → walkOf n file start ≡ Whole (recordPlace n file start)
-            → stepped v (recordPlace n file start) (recordPlace (suc n) file start) ≡ Broken fault place
-            → FirstFault (suc n) fault place
+        by : (v : Verdict Fault) → verdictAt n ≡ v → walkOf n file start ≡ Whole (recordPlace n file start) → went n v ≡ Broken fault place → FirstFault (suc n) fault place
         by pass v q d = absurd (whole-not-broken d)
         by (stop g) v q d =
-            let p : recordPlace n file start ≡ place = cc in
+            let p : place ≡ recordPlace n file start = cc in
             let f : g ≡ fault = cc in
-            (n, omega arith, q ∙ ap Whole p, rw (← p) (v ∙ ap stop f))
+            (n, omega arith, p, whole-only n q, v ∙ ap stop f)
 
     pub walk-breaks-exactly-if : (n : ℕ) (fault : Fault) (place : ℕ) → (walkOf n file start ≡ Broken fault place) ↔ FirstFault n fault place
     walk-breaks-exactly-if n fault place = (breaks-only n fault place, breaks-if n fault place)
 
-    whole-only : (n : ℕ) {end : ℕ} → walkOf n file start ≡ Whole end → (m : ℕ) → m < n → verdictAt m ≡ pass
-    whole-only n {end} e m h =
-        by (verdictAt m) (sym (next m (reached n m (omega arith) e)) ∙ reached n (m + 1) (omega arith) e)
+    -- ---- what the form of a file's records sends back
+
+    pub form-passes-exactly-if : (n : ℕ)
+        → (walkSaid file (walkOf n file start) ≡ pass) ↔ (((m : ℕ) → m < n → verdictAt m ≡ pass) × (length file ≤ recordPlace n file start))
+    form-passes-exactly-if n = (only, λ h. said-done file (recordPlace n file start) (h .1) (walkOf n file start) (whole-if n (h .0)))
       where
-        by : (v : Verdict Fault) → stepped v (recordPlace m file start) (recordPlace (m + 1) file start) ≡ Whole (recordPlace (m + 1) file start) → v ≡ pass
-        by pass d = refl
-        by (stop f) d = absurd (whole-not-broken (sym d))
+        only : walkSaid file (walkOf n file start) ≡ pass → ((m : ℕ) → m < n → verdictAt m ≡ pass) × (length file ≤ recordPlace n file start)
+        only h =
+            ⊎-elim
+            (λ q. (whole-only n q, leb-true (length file) (recordPlace n file start) (chain-exactly-if (leftTests file (recordPlace n file start)) .passes .0 (sym (ap (walkSaid file) q) ∙ h) .0)))
+            (λ s. absurd (pass-not-stop (sym h ∙ ap (walkSaid file) (s .2))))
+            (walk-stands n)
 
-    whole-if : (n : ℕ) → ((m : ℕ) → m < n → verdictAt m ≡ pass) → walkOf n file start ≡ Whole (recordPlace n file start)
-    unfolding walkOf recordPlace fold
-    whole-if zero h = refl
-    whole-if (suc n) h = (rw (add-one n) at (next n (whole-if n (λ m l. h m (omega arith))))) ∙ rw (h n (omega arith))
+    -- record m is the first faulty one, or all are fine and bytes are left
+    pub record Faulted (n : ℕ) (r : Refusal) : Type 0 where
+      pub fault : Fault
+      pub place : ℕ
+      pub first : FirstFault n fault place
+      pub is : r ≡ refusalOf fault place (lengthFrom place file) (length file)
 
-    pub walk-whole-exactly-if : (n : ℕ) → (walkOf n file start ≡ Whole (recordPlace n file start)) ↔ ((m : ℕ) → m < n → verdictAt m ≡ pass)
-    walk-whole-exactly-if n = (whole-only n, whole-if n)
+    pub record Left (n : ℕ) (r : Refusal) : Type 0 where
+      pub fine : (m : ℕ) → m < n → verdictAt m ≡ pass
+      pub more : recordPlace n file start < length file
+      pub is : r ≡ surplus (length file)
 
-    -- ---- what code needs to lend record m
+    pub form-refuses-exactly-if : (n : ℕ) (r : Refusal) → (walkSaid file (walkOf n file start) ≡ stop r) ↔ (Faulted n r ⊎ Left n r)
+    form-refuses-exactly-if n r = (only, ⊎-elim if-faulted if-left)
+      where
+        if-faulted : Faulted n r → walkSaid file (walkOf n file start) ≡ stop r
+        if-faulted h = said-broken file (breaks-if n (h .fault) (h .place) (h .first)) refl (h .is)
+
+        if-left : Left n r → walkSaid file (walkOf n file start) ≡ stop r
+        if-left h = said-left file (recordPlace n file start) (h .more) (walkOf n file start) (whole-if n (h .fine)) ∙ ap stop (sym (h .is))
+
+        by : walkOf n file start ≡ Whole (recordPlace n file start) → RefusedWith (leftTests file (recordPlace n file start)) r → Faulted n r ⊎ Left n r
+        by q (inl e) = inr (record { fine = whole-only n q; more = leb-false (length file) (recordPlace n file start) (e .0); is = e .1 })
+        by q (inr e) = absurd (e .1)
+
+        only : walkSaid file (walkOf n file start) ≡ stop r → Faulted n r ⊎ Left n r
+        only h =
+            ⊎-elim
+            (λ q. by q (chain-exactly-if (leftTests file (recordPlace n file start)) .refuses r .0 (sym (ap (walkSaid file) q) ∙ h)))
+            (λ s.
+            let e : stop (refusalOf (s .0) (s .1) (lengthFrom (s .1) file) (length file)) ≡ stop r = sym (ap (walkSaid file) (s .2)) ∙ h in
+            inl (record { fault = s .0; place = s .1; first = breaks-only n (s .0) (s .1) (s .2); is = cc }))
+            (walk-stands n)
+
+    -- ---- what code needs to lend record m of a walk that came through
 
     module _ (n : ℕ) (end : ℕ) (came : walkOf n file start ≡ Whole end) where
-      pub place-known : (m : ℕ) → m ≤ n → recordPlace m file start ≡ start + 527 * m
-      unfolding recordPlace fold
-      place-known zero h = omega arith
-      place-known (suc m) h =
-          let l = length-known m (recordPlace m file start) (whole-only n came m (omega arith)) in
-          omega (arith, place-known m (omega arith), l)
+      pub end-known : end ≡ recordPlace n file start
+      end-known = cc (reached n n (omega arith) came)
 
-      pub record-known : (m : ℕ) → m < n → recordAt (recordPlace m file start) file ≡ take 527 (drop (start + 527 * m) file)
+      pub record-sound : (m : ℕ) → m < n → FineForm m (drop (recordPlace m file start) file)
+      record-sound m h = passed-sound m (drop (recordPlace m file start) file) (whole-only n came m h)
+
+      pub record-inside : (m : ℕ) → m < n → recordPlace (m + 1) file start ≤ length file
+      record-inside m h =
+          let s = record-sound m h in
+          omega (arith, place-more m, s .some, s .room, length-drop (recordPlace m file start) file)
+
+      -- at its place, and as long as its mark says
+      pub lent : (m : ℕ) → m < n → {place : ℕ} → place ≡ recordPlace m file start → {long : ℕ} → long ≡ lengthFrom place file → Lent place long
       unfolding recordAt
-      record-known m h =
-          rw (length-known m (recordPlace m file start) (whole-only n came m h), place-known m (omega arith))
-
-      pub end-known : end ≡ start + 527 * n
-      end-known =
-          let e : end ≡ recordPlace n file start = cc (reached n n (omega arith) came) in
-          e ∙ place-known n (omega arith)
+      lent m h {place} p {long} l =
+          let s = subst (λ (i : ℕ). FineForm m (drop i file)) (sym p) (record-sound m h) in
+          let d = length-drop place file in
+          let z : place + long - place ≡ lengthFrom place file = omega (arith, l) in
+          record {
+            kind = s .kind;
+            named = ap kindOf (sym (mark-drop file place)) ∙ s .named;
+            is-long = l ∙ s .long;
+            inside = omega (arith, l, d, s .some, s .room);
+            part = ap (λ (i : ℕ). take i (drop place file)) z;
+            all = length-take-le (lengthFrom place file) (drop place file) (s .room) ∙ s .long;
+          }

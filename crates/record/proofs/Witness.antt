@@ -1,11 +1,17 @@
--- Heads at which a faulty definition would answer otherwise, computed from the definitions that the contracts cite. Assumes nothing.
+-- Heads, marks and cut files at which a faulty definition would answer otherwise, computed from the definitions that the contracts cite. Assumes nothing.
 use mathlib.Core.Path.{_≡_, refl}
 use mathlib.Core.List.{[], _∷_}
+use Prim.Native.Nat.{_+_, _*_}
 use Rattle.lists.specs.Chain.{chain}
+use Rattle.lists.specs.Fold.{fold}
 use Rattle.refusal.specs.Number.{number}
 use Rattle.record.specs.Entry.{headTests, sizeHolds}
-use Rattle.record.specs.Records.{headOf, summed, sumHolds}
+use Rattle.record.specs.Faults.{formOf, walkOf}
+use Rattle.record.specs.Kinds.{lengthOf, inFours, kindOf, recordLength}
+use Rattle.record.specs.Records.{headOf, summed, sumHolds, lengthIn}
 use Rattle.record.specs.Sum.{sumOf}
+use Rattle.record.specs.declared.Fault.the-variants.{CutMark, Mark, CutRest}
+use Rattle.record.specs.declared.Walk.the-variants.{Broken}
 
 -- "1 to 128 macroblocks": numbers at the ends and one beyond, and of a file without a head
 pub heads-refused :
@@ -13,3 +19,19 @@ pub heads-refused :
     ≡ 8 ∷ 0 ∷ 8 ∷ 9 ∷ []
 unfolding headOf summed sumOf sumHolds sizeHolds
 heads-refused = refl
+
+-- "Macroblock, 527 bytes": its kind's length is computed
+pub fours-length : lengthOf inFours ≡ 527
+fours-length = refl
+
+-- a record's length by its mark, and none
+pub lengths : recordLength (77 * 256 + 66) ∷ recordLength (77 * 256 + 67) ∷ [] ≡ lengthOf inFours ∷ 0 ∷ []
+unfolding kindOf
+lengths = refl
+
+-- a file of a head's length and one byte, an unknown mark, a mark alone
+pub cuts :
+    walkOf 1 (0 ∷ 77 ∷ []) 1 ∷ walkOf 1 (0 ∷ 77 ∷ 0 ∷ []) 1 ∷ walkOf 1 (0 ∷ 77 ∷ 66 ∷ []) 1 ∷ walkOf 1 [] 1 ∷ []
+    ≡ Broken CutMark 1 ∷ Broken Mark 1 ∷ Broken CutRest 1 ∷ Broken CutMark 1 ∷ []
+unfolding walkOf fold formOf kindOf lengthIn
+cuts = refl

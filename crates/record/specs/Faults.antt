@@ -1,47 +1,65 @@
--- "record by record, mark, number, sum (9, place = the record's first byte)" (01, "What is sent back, and in which order it
--- is tested"). Assumes nothing.
+-- The form of a file's records: document 01's tests are "record by record, mark, number, sum (9, place = the record's first byte)" ("What is
+-- sent back, and in which order it is tested"). With request 01 come the others: "Per record now cut mark, mark, cut rest, number, sum;
+-- bytes after the last record come at the end. A cut or surplus has the file length as place". A walk by the marks needs them, but while a
+-- file's length is tested first ("file length (9, place = its length)") they hold in every file (theorem `no-cut`). Assumes nothing.
+use mathlib.Core.Bool.{false}
 use mathlib.Core.List.{List, [], _∷_}
 use Prim.Native.Nat.{ℕ, _+_}
-use lib.Dec.{eqb}
+use lib.Dec.{eqb, leb}
+use lib.ListN.{length, drop}
 use Rattle.lists.specs.Chain.{Test, test, Verdict, pass, stop, chain}
 use Rattle.lists.specs.Fold.{fold}
 use Rattle.refusal.specs.declared.Refusal.the-variants as refusal
 use Rattle.refusal.specs.declared.Refusal.{Refusal}
+use Rattle.record.specs.Kinds.{kindOf, isKnown}
 use Rattle.record.specs.Numbers.{numberAt}
-use Rattle.record.specs.Records.{macroblockMark, numberIn, sumHolds, recordLength, recordAt}
-use Rattle.record.specs.declared.Fault.the-variants.{Mark, Number, Sum}
+use Rattle.record.specs.Records.{numberIn, sumHolds, lengthIn, firstIn, lengthFrom}
+use Rattle.record.specs.declared.Fault.the-variants.{CutMark, Mark, CutRest, Number, Sum}
 use Rattle.record.specs.declared.Fault.{Fault}
 use Rattle.record.specs.declared.Form.the-variants.{Fine, Faulty}
 use Rattle.record.specs.declared.Form.{Form}
 use Rattle.record.specs.declared.Walk.the-variants.{Whole, Broken}
 use Rattle.record.specs.declared.Walk.{Walk}
 
--- number and place of a fault in the record that begins at a place
-abbrev pub refusalOf : Fault → ℕ → Refusal
-refusalOf Mark place = refusal.Form place
-refusalOf Number place = refusal.Form place
-refusalOf Sum place = refusal.Form place
+-- number and place of a fault in the record that begins at a place and is so long, in a file of so many bytes: mark, number and sum have
+-- "the record's first byte" (01), a cut "the file length" (request 01)
+abbrev pub refusalOf : Fault → ℕ → ℕ → ℕ → Refusal
+refusalOf CutMark place long total = refusal.Form total
+refusalOf Mark place long total = refusal.Form place
+refusalOf CutRest place long total = refusal.Form total
+refusalOf Number place long total = refusal.Form place
+refusalOf Sum place long total = refusal.Form place
 
--- the tests of a record's form, in their order
+-- bytes after the last record, in a file of so many bytes (request 01)
+abbrev pub surplus : ℕ → Refusal
+surplus total = refusal.Form total
+
+-- the tests of the form of the record that these bytes begin with, in their order: mark, number and sum are document 01's, cut mark and cut
+-- rest request 01's
 abbrev pub formTests : ℕ → List ℕ → List (Test Fault)
 formTests number bytes =
-    test (eqb (numberAt 0 bytes) macroblockMark) Mark
+    test (leb 2 (length bytes)) CutMark
+    ∷ test (isKnown (kindOf (numberAt 0 bytes))) Mark
+    ∷ test (leb (lengthIn bytes) (length bytes)) CutRest
     ∷ test (eqb (numberIn bytes) number) Number
-    ∷ test (sumHolds bytes) Sum ∷ []
+    ∷ test (sumHolds (firstIn bytes)) Sum ∷ []
 
--- what the answer of such a test says
-abbrev pub formSaid : Form → Verdict Fault
-formSaid Fine = pass
-formSaid (Faulty fault) = stop fault
+-- the record's length where its form is fine, or its fault
+abbrev pub formed : Verdict Fault → ℕ → Form
+formed pass long = Fine long
+formed (stop fault) long = Faulty fault
 
--- the walk goes on to the next record, or a fault stops it at the first byte of this one
-abbrev pub stepped : Verdict Fault → ℕ → ℕ → Walk
-stepped pass place next = Whole next
-stepped (stop fault) place next = Broken fault place
+unfoldable pub formOf : ℕ → List ℕ → Form
+formOf number bytes = formed (chain (formTests number bytes)) (lengthIn bytes)
+
+-- the walk goes on behind a record, or a fault stops it at the record's first byte
+abbrev pub stepped : Form → ℕ → Walk
+stepped (Fine long) place = Whole (place + long)
+stepped (Faulty fault) place = Broken fault place
 
 -- one record more, unless a fault has stopped the walk
 abbrev pub onward : List ℕ → ℕ → Walk → Walk
-onward file number (Whole place) = stepped (chain (formTests number (recordAt place file))) place (place + recordLength (numberAt place file))
+onward file number (Whole place) = stepped (formOf number (drop place file)) place
 onward file number (Broken fault place) = Broken fault place
 
 -- the walk over the records 0, .., n - 1 of a file, the first of which begins at a place:
@@ -49,7 +67,15 @@ onward file number (Broken fault place) = Broken fault place
 unfoldable pub walkOf : ℕ → List ℕ → ℕ → Walk
 walkOf n file start = fold n (onward file) (Whole start)
 
--- what a walk sends back
-abbrev pub walkSaid : Walk → Verdict Refusal
-walkSaid (Whole place) = pass
-walkSaid (Broken fault place) = stop (refusalOf fault place)
+-- behind the last record, at this place, nothing is left (request 01)
+abbrev pub leftTests : List ℕ → ℕ → List (Test Refusal)
+leftTests file place = test (leb (length file) place) (surplus (length file)) ∷ []
+
+-- what a walk over a file comes to, as tests: a fault that has stopped it, or that nothing is left
+abbrev pub walkTests : List ℕ → Walk → List (Test Refusal)
+walkTests file (Whole place) = leftTests file place
+walkTests file (Broken fault place) = test false (refusalOf fault place (lengthFrom place file) (length file)) ∷ []
+
+-- and what it sends back
+abbrev pub walkSaid : List ℕ → Walk → Verdict Refusal
+walkSaid file w = chain (walkTests file w)

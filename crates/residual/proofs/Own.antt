@@ -36,7 +36,7 @@ use Rattle.residual.specs.Rescale.{scaledBy, mfAt, vAt, rescaled}
 use Rattle.residual.proofs.Quantize.{third-small, level-within, size-signed}
 use Rattle.residual.specs.Entry.{rebuildTests, levelTests, rangeTest, firstWide}
 use Rattle.residual.specs.Order.{inZigzag, inPlaces}
-use Rattle.residual.specs.Rebuild.{numbersOf, numbersWithDc}
+use Rattle.residual.specs.Rebuild.{rescaledOf, rescaledWithDc}
 use Rattle.residual.proofs.Entry.{wide-none, accepts-all, range-fine}
 use Rattle.residual.proofs.Order.{length-zigzag, places-again, in-zigzag-each}
 use Rattle.residual.proofs.Rescale.{scaled-block}
@@ -95,7 +95,7 @@ rescaled-own c r p y h k w =
 -- ---- a block
 
 -- two lists of levels that differ in the first only rescale alike but for place 0, where the DC then stands
-other-levels : (qp : ℕ) (l : List ℤ) → length l ≡ 16 → (dc : ℤ) → numbersWithDc qp dc (drop 1 l) ≡ set (numbersOf qp l) 0 dc
+other-levels : (qp : ℕ) (l : List ℤ) → length l ≡ 16 → (dc : ℤ) → rescaledWithDc qp dc (drop 1 l) ≡ set (rescaledOf qp l) 0 dc
 unfolding rescaled inPlaces tab
 other-levels qp [] e dc = absurd (omega arith)
 other-levels qp (z ∷ l) e dc = refl
@@ -106,7 +106,7 @@ module _ (qp : ℕ) (x : List ℤ) where
   length-quantized = length-tab 16 _
 
   -- the levels as they are sent come back to their places
-  pub own-numbers : numbersOf qp (levelsOf qp x) ≡ rescaled qp (quantized qp x)
+  pub own-numbers : rescaledOf qp (levelsOf qp x) ≡ rescaled qp (quantized qp x)
   own-numbers = ap (rescaled qp) (places-again (quantized qp x) length-quantized)
 
 module _ (qp : ℕ) (legal : qp ≤ highest) (x : List ℤ) (small : Each 255 x) where
@@ -128,7 +128,7 @@ module _ (qp : ℕ) (legal : qp ≤ highest) (x : List ℤ) (small : Each 255 x)
 
   pub record OwnInRange : Type 0 where
     pub levels : Each 1632 (levelsOf qp x)
-    pub numbers : Each 25978 (numbersOf qp (levelsOf qp x))
+    pub numbers : Each 25978 (rescaledOf qp (levelsOf qp x))
 
   pub own-levels-in-range : OwnInRange
   own-levels-in-range = record {
@@ -137,9 +137,9 @@ module _ (qp : ℕ) (legal : qp ≤ highest) (x : List ℤ) (small : Each 255 x)
   }
 
   -- none lies outside -32768..32767
-  pub own-numbers-fit : firstWide (inZigzag (numbersOf qp (levelsOf qp x))) ≡ 16
+  pub own-numbers-fit : firstWide (inZigzag (rescaledOf qp (levelsOf qp x))) ≡ 16
   own-numbers-fit =
-      let d = numbersOf qp (levelsOf qp x) in
+      let d = rescaledOf qp (levelsOf qp x) in
       wide-none (inZigzag d) (in-zigzag-each 32767 d (each-less 25978 32767 d (own-levels-in-range .numbers) tt)) ∙ length-zigzag d
 
   -- so `rebuild` accepts them, whatever the prediction
@@ -148,14 +148,14 @@ module _ (qp : ℕ) (legal : qp ≤ highest) (x : List ℤ) (small : Each 255 x)
       let l = levelsOf qp x in
       let n : length (levelsOf qp x) ≡ 16 = length-zigzag (quantized qp x) in
       let first = accepts-all 16 0 qp (length p) l (length o) a n b legal (omega (arith, wide-none l (each-less 1632 32767 l (own-levels-in-range .levels) tt))) in
-      chain-passed (levelTests 16 0 qp (length p) l (length o)) (rangeTest (numbersOf qp l) ∷ []) first
-      ∙ range-fine (numbersOf qp l) (omega (arith, own-numbers-fit))
+      chain-passed (levelTests 16 0 qp (length p) l (length o)) (rangeTest (rescaledOf qp l) ∷ []) first
+      ∙ range-fine (rescaledOf qp l) (omega (arith, own-numbers-fit))
 
   -- ---- the DC path
 
   pub record DcPath (dc : ℤ) : Type 0 where
     -- its AC levels are levels 1 to 15 of the block: with any DC they rebuild from the block's own numbers, place 0 replaced
-    pub numbers : numbersWithDc qp dc (drop 1 (levelsOf qp x)) ≡ set (numbersOf qp (levelsOf qp x)) 0 dc
+    pub numbers : rescaledWithDc qp dc (drop 1 (levelsOf qp x)) ≡ set (rescaledOf qp (levelsOf qp x)) 0 dc
     -- and its DC is coefficient 0, in the range that the DC paths take
     pub range : Within 4080 (getD (forward x) 0 (pos 0))
 

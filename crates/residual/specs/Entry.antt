@@ -18,7 +18,7 @@ use Rattle.quantizer.specs.Range as built
 use Rattle.quantizer.specs.declared.Built.{Built}
 use Rattle.residual.specs.Levels.{levelsOf}
 use Rattle.residual.specs.Order.{inZigzag}
-use Rattle.residual.specs.Rebuild.{samplesOf, numbersOf, numbersWithDc}
+use Rattle.residual.specs.Rebuild.{rebuiltSamples, rescaledOf, rescaledWithDc}
 
 -- "outside -32768..32767": the first index
 abbrev pub firstWide : List ℤ → ℕ
@@ -54,7 +54,7 @@ pub record Levels (qp : ℕ) (residual out : List ℤ) (r : Answer) (after : Lis
 
 pub record Finishes (prediction : List ℕ) (d : List ℤ) (out : List ℕ) (r : Answer) (after : List ℕ) : Type 0 where
   pub says : Says (said r) (chain (rangeTest d ∷ []))
-  pub wrote : after ≡ written (chain (rangeTest d ∷ [])) (samplesOf prediction d) out
+  pub wrote : after ≡ written (chain (rangeTest d ∷ [])) (rebuiltSamples prediction d) out
 
 -- ---- before it: LENGTH, QUANTIZER, LEVEL of n levels whose indexes count from `from`
 
@@ -74,17 +74,17 @@ pub record Accepts (n from qp predicted : ℕ) (levels : List ℤ) (room : ℕ) 
 -- ---- rebuild: LENGTH, QUANTIZER, LEVEL, RANGE
 
 abbrev pub rebuildTests : ℕ → List ℕ → List ℤ → List ℕ → List (Test Refusal)
-rebuildTests qp prediction levels out = levelTests 16 0 qp (length prediction) levels (length out) ++ (rangeTest (numbersOf qp levels) ∷ [])
+rebuildTests qp prediction levels out = levelTests 16 0 qp (length prediction) levels (length out) ++ (rangeTest (rescaledOf qp levels) ∷ [])
 
 pub record Rebuilds (qp : ℕ) (prediction : List ℕ) (levels : List ℤ) (out : List ℕ) (r : Answer) (after : List ℕ) : Type 0 where
   pub says : Says (said r) (chain (rebuildTests qp prediction levels out))
-  pub wrote : after ≡ written (chain (rebuildTests qp prediction levels out)) (samplesOf prediction (numbersOf qp levels)) out
+  pub wrote : after ≡ written (chain (rebuildTests qp prediction levels out)) (rebuiltSamples prediction (rescaledOf qp levels)) out
 
 -- ---- rebuild_with_dc: "15 AC levels count from 1", "a given DC is 0"
 
 abbrev pub withDcTests : ℕ → List ℕ → ℤ → List ℤ → List ℕ → List (Test Refusal)
-withDcTests qp prediction dc ac out = levelTests 15 1 qp (length prediction) ac (length out) ++ (rangeTest (numbersWithDc qp dc ac) ∷ [])
+withDcTests qp prediction dc ac out = levelTests 15 1 qp (length prediction) ac (length out) ++ (rangeTest (rescaledWithDc qp dc ac) ∷ [])
 
 pub record RebuildsWithDc (qp : ℕ) (prediction : List ℕ) (dc : ℤ) (ac : List ℤ) (out : List ℕ) (r : Answer) (after : List ℕ) : Type 0 where
   pub says : Says (said r) (chain (withDcTests qp prediction dc ac out))
-  pub wrote : after ≡ written (chain (withDcTests qp prediction dc ac out)) (samplesOf prediction (numbersWithDc qp dc ac)) out
+  pub wrote : after ≡ written (chain (withDcTests qp prediction dc ac out)) (rebuiltSamples prediction (rescaledWithDc qp dc ac)) out

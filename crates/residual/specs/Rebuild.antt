@@ -14,13 +14,13 @@ unfoldable pub added : List ℕ → List ℤ → List ℕ
 added prediction residual = tab 16 (λ place. clip 255 (pos (getD prediction place 0) +ℤ getD residual place (pos 0)))
 
 -- the samples of a prediction and of sixteen rescaled numbers in raster order
-unfoldable pub samplesOf : List ℕ → List ℤ → List ℕ
-samplesOf prediction d = added prediction (inverse d)
+unfoldable pub rebuiltSamples : List ℕ → List ℤ → List ℕ
+rebuiltSamples prediction d = added prediction (inverse d)
 
 -- sixteen levels in zigzag order, rescaled, in raster order
-abbrev pub numbersOf : ℕ → List ℤ → List ℤ
-numbersOf qp levels = rescaled qp (inPlaces levels)
+abbrev pub rescaledOf : ℕ → List ℤ → List ℤ
+rescaledOf qp levels = rescaled qp (inPlaces levels)
 
 -- "A block whose DC comes this way is rebuilt from that rescaled DC and 15 AC levels."
-abbrev pub numbersWithDc : ℕ → ℤ → List ℤ → List ℤ
-numbersWithDc qp dc ac = set (numbersOf qp (pos 0 ∷ ac)) 0 dc
+abbrev pub rescaledWithDc : ℕ → ℤ → List ℤ → List ℤ
+rescaledWithDc qp dc ac = set (rescaledOf qp (pos 0 ∷ ac)) 0 dc

@@ -11,7 +11,7 @@ ghost use Rattle.residual.specs.Levels.{quantized};
 ghost use Rattle.quantizer.specs.Range.{highest, periodOf, remainderOf};
 ghost use Rattle.quantizer.specs.Tables.{vOf};
 ghost use Rattle.residual.specs.Rescale.{mfAt, vAt, rescaled};
-ghost use Rattle.residual.specs.Rebuild.{added, samplesOf};
+ghost use Rattle.residual.specs.Rebuild.{added, rebuiltSamples};
 ghost use Rattle.residual.specs.Order.{inZigzag, inPlaces};
 use quantizer::Class;
 use quantizer::Quantizer;
@@ -171,7 +171,7 @@ fn add(samples: &mut [u8], residual: [i32; 16])
 // The samples of sixteen rescaled numbers, written over their prediction.
 pub(crate) fn rebuild_over(samples: &mut [u8], numbers: [i32; 16])
     requires { ⌜ (length (now samples) ≡ 16) × (Each 32768 numbers) ⌝ }
-    ensures { λ _. ⌜ now (samples .exit) ≡ samplesOf (now (samples .entry)) numbers ⌝ }
+    ensures { λ _. ⌜ now (samples .exit) ≡ rebuiltSamples (now (samples .entry)) numbers ⌝ }
 {
     add(samples, transform::inner::inverse_block(numbers));
 }
@@ -179,7 +179,7 @@ pub(crate) fn rebuild_over(samples: &mut [u8], numbers: [i32; 16])
 // The samples of a prediction and of sixteen rescaled numbers.
 pub fn samples(prediction: [u8; 16], numbers: [i32; 16]) -> [u8; 16]
     requires { ⌜ Each 32768 numbers ⌝ }
-    ensures { λ r. ⌜ r ≡ samplesOf prediction numbers ⌝ }
+    ensures { λ r. ⌜ r ≡ rebuiltSamples prediction numbers ⌝ }
 {
     let mut out = prediction;
     rebuild_over(&mut out, numbers);

@@ -49,8 +49,8 @@ module _ (l : Layout) (map original rebuilt original′ rebuilt′ : List ℕ) (
       (λ t. sum-ext 16 _ _ (λ j q. sum-ext 16 _ _ (λ i p.
       λ k.
       F
-      (sample-same 16 (stride l) (blockColumn l m 0) (blockRow l m 0) original original′ (o .same m h t) i j p q k)
-      (sample-same 16 (stride l) (blockColumn l m 0) (blockRow l m 0) rebuilt rebuilt′ (r .same m h t) i j p q k)))))
+      (sample-same 16 (stride 16 l) (blockColumn l m 0) (blockRow l m 0) original original′ (o .same m h t) i j p q k)
+      (sample-same 16 (stride 16 l) (blockColumn l m 0) (blockRow l m 0) rebuilt rebuilt′ (r .same m h t) i j p q k)))))
 
   sheet-same : sheetOf l original rebuilt map ≡ sheetOf l original′ rebuilt′ map
   sheet-same =

@@ -22,7 +22,7 @@ use Rattle.refusal.proofs.Same.{says, says-same, says-exactly-if}
 use Rattle.record.specs.Entry.{sizeHolds}
 use Rattle.record.proofs.Heads.{sized-of}
 use Rattle.picture.specs.Order.{Sound}
-use Rattle.picture.specs.Plane.{layoutOf, samplesOf}
+use Rattle.picture.specs.Plane.{layoutOf, planeLength}
 use Rattle.sheet.specs.Code.{ofTotals, SumsOver, presentTotal, sheetFrom, Carried}
 use Rattle.sheet.specs.Entry.{firstFlag, sheetTests, writeTests, said, givenIn, Sheets, Writes}
 use Rattle.sheet.specs.Errors.{presentCount}
@@ -54,7 +54,7 @@ module _ (width height : ℕ) (original rebuilt map : List ℕ) where
   quality-sheet-refuses-exactly-if r p = says-exactly-if (sheetTests width height original rebuilt map) (p .says)
 
   abbrev samples : ℕ
-  samples = samplesOf (layoutOf width height)
+  samples = planeLength 16 (layoutOf width height)
 
   refused : (r : Refusal) → chain (sheetTests width height original rebuilt map) ≡ stop r → Sheets width height original rebuilt map (answer.Refused r)
   refused r e = record { says = says (sym e); sheet = simp e }

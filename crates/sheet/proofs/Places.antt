@@ -58,7 +58,7 @@ pub present-pos : (l : Layout) (map : List ℕ) (f : ℕ → ℤ) (g : ℕ → �
 unfolding presentSum presentTotal
 present-pos l map f g e =
     sum-pos (l .width * l .height) (λ m. cond (isPresent map m) (macroblockSum l m f) (pos 0)) (λ m. cond (isPresent map m) (macroblockTotal l m g) 0)
-    (λ m. cond-pos (isPresent map m) (square-pos 16 (stride l) (blockColumn l m 0) (blockRow l m 0) f g e))
+    (λ m. cond-pos (isPresent map m) (square-pos 16 (stride 16 l) (blockColumn l m 0) (blockRow l m 0) f g e))
 
 -- ---- differences
 
@@ -76,7 +76,7 @@ present-minus : (l : Layout) (map : List ℕ) (f g : ℕ → ℤ) → presentSum
 unfolding presentSum
 present-minus l map f g =
     sum-ext (l .width * l .height) _ _
-    (λ m k. cond-minus (isPresent map m) (macroblockSum l m f) (macroblockSum l m g) (square-minus 16 (stride l) (blockColumn l m 0) (blockRow l m 0) f g))
+    (λ m k. cond-minus (isPresent map m) (macroblockSum l m f) (macroblockSum l m g) (square-minus 16 (stride 16 l) (blockColumn l m 0) (blockRow l m 0) f g))
     ∙ sum-minus (l .width * l .height) (λ m. cond (isPresent map m) (macroblockSum l m f) (pos 0)) (λ m. cond (isPresent map m) (macroblockSum l m g) (pos 0))
 
 -- ---- the rules at a place
@@ -119,7 +119,7 @@ module _ (original rebuilt : List ℕ) where
 
 -- ---- the places of a macroblock
 
-pub macroblock-lies : {l : Layout} {m : ℕ} {original rebuilt : List ℕ} → Among l m 0 → Planes l original rebuilt → Lies (firstPlace l m) (stride l) original rebuilt
+pub macroblock-lies : {l : Layout} {m : ℕ} {original rebuilt : List ℕ} → Among l m 0 → Planes l original rebuilt → Lies (firstPlace l m) (stride 16 l) original rebuilt
 unfolding blockColumn blockRow columnIn rowIn tablePlace blockTable first
 macroblock-lies {l} {m} a p =
     let r : m / l .width < l .height = div-lt-iff-lt-mul (a .sound .some) .1 (omega (arith, a .macroblock)) in

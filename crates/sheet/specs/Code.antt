@@ -10,7 +10,7 @@ use Rattle.lists.specs.Chain.{pass}
 use Rattle.lists.specs.Total.{total, distance}
 use Rattle.picture.specs.declared.Layout.{Layout}
 use Rattle.picture.specs.Order.{blockColumn, blockRow}
-use Rattle.picture.specs.Plane.{stride, samplesOf}
+use Rattle.picture.specs.Plane.{stride, planeLength}
 use Rattle.sheet.specs.Entry.{said, givenIn}
 use Rattle.sheet.specs.Errors.{isPresent}
 use Rattle.sheet.specs.Means.{nothing, given, dividedOnce}
@@ -86,10 +86,10 @@ squareTotal n s at g = total n (λ j. rowTotal n (at + j * s) g)
 
 -- those of macroblock m
 abbrev pub firstPlace : Layout → (m : ℕ) → ℕ
-firstPlace l m = blockRow l m 0 * stride l + blockColumn l m 0
+firstPlace l m = blockRow l m 0 * stride 16 l + blockColumn l m 0
 
 abbrev pub macroblockTotal : Layout → (m : ℕ) → (ℕ → ℕ) → ℕ
-macroblockTotal l m g = squareTotal 16 (stride l) (firstPlace l m) g
+macroblockTotal l m g = squareTotal 16 (stride 16 l) (firstPlace l m) g
 
 -- and of all that are present
 unfoldable pub presentTotal : Layout → List ℕ → (ℕ → ℕ) → ℕ
@@ -99,8 +99,8 @@ presentTotal l map g = total (l .width * l .height) (λ m. cond (isPresent map m
 
 -- the planes of a picture
 pub record Planes (l : Layout) (original rebuilt : List ℕ) : Type 0 where
-  pub own : length original ≡ samplesOf l
-  pub back : length rebuilt ≡ samplesOf l
+  pub own : length original ≡ planeLength 16 l
+  pub back : length rebuilt ≡ planeLength 16 l
 
 -- 16 rows of 16 places, s apart, lie in both planes
 pub record Lies (at s : ℕ) (original rebuilt : List ℕ) : Type 0 where

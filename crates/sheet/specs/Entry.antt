@@ -11,7 +11,7 @@ use Rattle.refusal.specs.Number.{Says}
 use Rattle.refusal.specs.declared.Refusal.{Refusal}
 use Rattle.refusal.specs.declared.Refusal.the-variants as refusal
 use Rattle.record.specs.Entry.{sizeHolds}
-use Rattle.picture.specs.Plane.{layoutOf, samplesOf}
+use Rattle.picture.specs.Plane.{layoutOf, planeLength}
 use Rattle.sheet.specs.Means.{Given, nothing, given, givenOf, areaOf}
 use Rattle.sheet.specs.declared.Sheeted.{Sheeted}
 use Rattle.sheet.specs.declared.Sheeted.the-variants as answer
@@ -23,8 +23,8 @@ firstFlag map = first (length map) (λ m. ltb 1 (getD map m 0))
 -- "Refusals: SIZE, LENGTH, then a map byte above 1 is FLAGS with its place": those behind SIZE
 abbrev pub planeTests : (width height : ℕ) (original rebuilt map : List ℕ) → List (Test Refusal)
 planeTests width height original rebuilt map =
-    test (eqb (length original) (samplesOf (layoutOf width height))) refusal.Length
-    ∷ test (eqb (length rebuilt) (samplesOf (layoutOf width height))) refusal.Length
+    test (eqb (length original) (planeLength 16 (layoutOf width height))) refusal.Length
+    ∷ test (eqb (length rebuilt) (planeLength 16 (layoutOf width height))) refusal.Length
     ∷ test (eqb (length map) (width * height)) refusal.Length
     ∷ test (eqb (firstFlag map) (length map)) (refusal.Flags (firstFlag map)) ∷ []
 

@@ -46,7 +46,7 @@ squareSum n s x y f = sum n (λ j. sum n (λ i. f ((y + j) * s + (x + i))))
 
 -- over the places of macroblock m: 16 by 16 samples from the first of its block 0 on (01, "Plane and record file")
 abbrev pub macroblockSum : Layout → (m : ℕ) → (ℕ → ℤ) → ℤ
-macroblockSum l m f = squareSum 16 (stride l) (blockColumn l m 0) (blockRow l m 0) f
+macroblockSum l m f = squareSum 16 (stride 16 l) (blockColumn l m 0) (blockRow l m 0) f
 
 -- "every sample of an absent macroblock is left out"
 unfoldable pub presentSum : Layout → List ℕ → (ℕ → ℤ) → ℤ

@@ -45,7 +45,7 @@ pub record SumsExact (l : Layout) (original rebuilt map : List ℕ) : Type 0 whe
 
 -- the samples of macroblock m
 abbrev pub macroblockOf : Layout → (m : ℕ) → List ℕ → List ℕ
-macroblockOf l m plane = blockAt 16 (stride l) (blockColumn l m 0) (blockRow l m 0) plane
+macroblockOf l m plane = blockAt 16 (stride 16 l) (blockColumn l m 0) (blockRow l m 0) plane
 
 -- two planes of the same length have the same samples in every macroblock that is present
 pub record AgreeInPresent (l : Layout) (map a b : List ℕ) : Type 0 where

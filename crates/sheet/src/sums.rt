@@ -21,7 +21,6 @@ ghost use Rattle.sheet.specs.Code.{
   Lies,
 };
 use crate::map::is_present;
-use picture::Layout;
 use whole::inner::distance;
 
 // Sums over some samples: of absolute and squared errors, of rebuilt and of original samples. Those of a macroblock fit 32 bits.
@@ -135,11 +134,7 @@ fn part(width: usize, height: usize, m: usize, byte: u8, original: &[u8], rebuil
     if !is_present(byte) {
         return none();
     }
-    let layout = Layout {
-        width,
-        height,
-        rows: height,
-    };
+    let layout = picture::inner::one_slice(width, height);
     macroblock(
         original,
         rebuilt,

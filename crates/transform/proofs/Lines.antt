@@ -13,7 +13,7 @@ use lib.ListN.{length, getD}
 use Rattle.lists.proofs.Stores.{Striding, striding-done}
 use Rattle.whole.specs.Bounds.{Within, Each}
 use Rattle.whole.proofs.Steps.{each-at}
-use Rattle.transform.specs.Block.{byRow}
+use Rattle.transform.specs.Quads.{byRow}
 use Rattle.transform.specs.Matrix.{Line, eachRow, eachColumn, raster, entries}
 use Rattle.transform.proofs.Squares.{Local, Grows, entries-at, entries-same, entries-of, entries-each, raster-within}
 

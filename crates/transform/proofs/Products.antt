@@ -12,7 +12,7 @@ use lib.ListN.{length, getD, length-map, List·getD-map}
 use Rattle.whole.specs.Sum.{sum, unit}
 use Rattle.whole.proofs.Ring.{ring, var, con, _⊗_}
 use Rattle.whole.proofs.Sums.{sum-ext, sum-scale, sum-swap, picked}
-use Rattle.transform.specs.Block.{through}
+use Rattle.transform.specs.Quads.{through}
 use Rattle.transform.specs.Carried.{scaled}
 use Rattle.transform.specs.Matrix.{Line, Matrix, product, transposed, raster, entries}
 use Rattle.transform.proofs.Squares.{entries-at, entries-of}

@@ -20,11 +20,11 @@ use Rattle.whole.specs.Bounds.{Each}
 use Rattle.whole.proofs.Ring.{Expression, var, con, _⊕_, _⊗_, values, normals, rings}
 use Rattle.whole.proofs.Steps.{Code, inp, add, sub, shr, each-at}
 use Rattle.whole.proofs.Lists.{gather, each-gather, oks, mosts, sizes}
-use Rattle.transform.specs.Block.{row, flat, line, byRow, through}
+use Rattle.transform.specs.Quads.{row, flat, line, byRow, through}
 use Rattle.transform.specs.Hadamard.{hadamard}
 use Rattle.transform.specs.Inverse.{butterfly, back}
 use Rattle.transform.specs.Matrix.{Line, Matrix, raster, eachRow}
-use Rattle.transform.specs.declared.inner.Block.{Block}
+use Rattle.transform.specs.declared.inner.Quads.{Quads}
 use Rattle.transform.specs.declared.inner.Quad.{Quad}
 use Rattle.transform.proofs.Squares.{Local, Grows, entries-of}
 
@@ -102,7 +102,7 @@ pub gathered : (l : List ℤ) → length l ≡ 16 → gather sixteen l ≡ l
 unfolding tab
 gathered l e = tab-of 16 (line l) l (pos 0) e (λ k h. refl)
 
-pub rows-each : (B : ℕ) (m : Block) → Each B (flat m) → Each B (row (m .a)) × Each B (row (m .b)) × Each B (row (m .c)) × Each B (row (m .d))
+pub rows-each : (B : ℕ) (m : Quads) → Each B (flat m) → Each B (row (m .a)) × Each B (row (m .b)) × Each B (row (m .c)) × Each B (row (m .d))
 rows-each B m h = (
   each-gather B (0 ∷ 1 ∷ 2 ∷ 3 ∷ []) (flat m) h,
   each-gather B (4 ∷ 5 ∷ 6 ∷ 7 ∷ []) (flat m) h,
@@ -111,10 +111,10 @@ rows-each B m h = (
 )
 
 -- v is row i of m
-abbrev Row : Block → ℕ → Quad → Type 0
+abbrev Row : Quads → ℕ → Quad → Type 0
 Row m i v = (k : ℕ) → k < 4 → line (row v) k ≡ raster 4 (flat m) i k
 
-module _ (m : Block) where
+module _ (m : Quads) where
   row-a : Row m 0 (m .a)
   row-a = below-four (λ k. line (row (m .a)) k ≡ raster 4 (flat m) 0 k) refl refl refl refl
 
@@ -127,7 +127,7 @@ module _ (m : Block) where
   row-d : Row m 3 (m .d)
   row-d = below-four (λ k. line (row (m .d)) k ≡ raster 4 (flat m) 3 k) refl refl refl refl
 
-module _ (f : Line → Line) (local : Local 4 f) (m r : Block) where
+module _ (f : Line → Line) (local : Local 4 f) (m r : Quads) where
   row-at : (i : ℕ) {v u : Quad} → Row m i v → Row r i u → row u ≡ tab 4 (f (line (row v))) → (j : ℕ) → j < 4 → raster 4 (flat r) i j ≡ f (raster 4 (flat m) i) j
   row-at i {v} {u} from there e j h =
       sym (there j h) ∙ ap (λ (z : List ℤ). getD z j (pos 0)) e ∙ getD-tab 4 (f (line (row v))) j (pos 0) h ∙ local _ _ from j h

@@ -17,7 +17,7 @@ use Rattle.lists.proofs.Tab.{length-tab, getD-tab, tab-same}
 use Rattle.whole.specs.Bounds.{Each}
 use Rattle.whole.proofs.Lists.{each-less}
 use Rattle.whole.proofs.Sums.{same-below}
-use Rattle.transform.specs.Block.{line, byRow, through, wide}
+use Rattle.transform.specs.Quads.{line, byRow, through, wide}
 use Rattle.transform.specs.Forward.{C, forward}
 use Rattle.transform.specs.Hadamard.{H4, H2, hadamard}
 use Rattle.transform.specs.Inverse.{back, inverse, rounded}

@@ -15,7 +15,7 @@ use Rattle.lists.proofs.Tab.{row-below, column-below, length-tab, getD-tab, tab
 use Rattle.whole.specs.Bounds.{Within, Each}
 use Rattle.whole.proofs.Steps.{each-at}
 use Rattle.whole.proofs.Lists.{each-from}
-use Rattle.transform.specs.Block.{byRow}
+use Rattle.transform.specs.Quads.{byRow}
 use Rattle.transform.specs.Matrix.{Line, Matrix, transposed, eachRow, eachColumn, raster, entries}
 
 -- f looks at the first n numbers only

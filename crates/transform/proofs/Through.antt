@@ -15,7 +15,7 @@ use Rattle.whole.specs.Bounds.{Within}
 use Rattle.whole.specs.Sum.{sum}
 use Rattle.whole.proofs.Bound.{abs-add, abs-mul}
 use Rattle.whole.proofs.Sums.{sum-ext}
-use Rattle.transform.specs.Block.{through}
+use Rattle.transform.specs.Quads.{through}
 use Rattle.transform.specs.Matrix.{Line, Matrix, product, transposed, eachRow, eachColumn}
 use Rattle.transform.proofs.Products.{around}
 use Rattle.transform.proofs.Squares.{Local, Grows}

@@ -1,4 +1,4 @@
-pub mod Block
+pub mod Quads
 pub mod Carried
 pub mod Entry
 pub mod Forward

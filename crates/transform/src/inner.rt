@@ -6,7 +6,7 @@ ghost use lib.ListN.{length, getD};
 ghost use Rattle.lists.specs.Stores.{stores};
 ghost use Rattle.lists.specs.Tab.{tab, turned};
 ghost use Rattle.whole.specs.Bounds.{Within, Each};
-ghost use Rattle.transform.specs.Block.{row, flat, line, byRow, through, wide};
+ghost use Rattle.transform.specs.Quads.{row, flat, line, byRow, through, wide};
 ghost use Rattle.transform.specs.Forward.{C, forward};
 ghost use Rattle.transform.specs.Hadamard.{H4, H2, hadamard};
 ghost use Rattle.transform.specs.Inverse.{back, inverse, rounded};
@@ -18,7 +18,7 @@ struct Quad {
     s: i32,
 }
 
-struct Block {
+struct Quads {
     a: Quad,
     b: Quad,
     c: Quad,
@@ -26,11 +26,11 @@ struct Block {
 }
 
 // Rows and columns exchanged.
-fn turned(m: Block) -> Block
+fn turned(m: Quads) -> Quads
     requires { ⌜ Each wide (flat m) ⌝ }
     ensures { λ r. ⌜ flat r ≡ turned (pos 0) 4 (flat m) ⌝ }
 {
-    Block {
+    Quads {
         a: Quad {
             p: m.a.p,
             q: m.b.p,
@@ -59,11 +59,11 @@ fn turned(m: Block) -> Block
 }
 
 // Sixteen numbers as four rows.
-fn in_rows(x: [i32; 16]) -> Block
+fn in_rows(x: [i32; 16]) -> Quads
     requires { ⌜ Each wide x ⌝ }
     ensures { λ r. ⌜ flat r ≡ x ⌝ }
 {
-    Block {
+    Quads {
         a: Quad {
             p: x[0],
             q: x[1],
@@ -92,7 +92,7 @@ fn in_rows(x: [i32; 16]) -> Block
 }
 
 // Four rows as sixteen numbers.
-fn in_raster(m: Block) -> [i32; 16]
+fn in_raster(m: Quads) -> [i32; 16]
     requires { ⌜ Each wide (flat m) ⌝ }
     ensures { λ r. ⌜ r ≡ flat m ⌝ }
 {
@@ -133,7 +133,7 @@ fn forward_row(v: Quad) -> Quad
 }
 
 // The same of each row.
-fn forward_rows(m: Block) -> Block
+fn forward_rows(m: Quads) -> Quads
     requires { ⌜ Each wide (flat m) ⌝ }
     ensures { λ r. ⌜ flat r ≡ byRow 4 (through 4 C) (flat m) ⌝ }
 {
@@ -141,7 +141,7 @@ fn forward_rows(m: Block) -> Block
     let b = m.b;
     let c = m.c;
     let d = m.d;
-    Block {
+    Quads {
         a: forward_row(a),
         b: forward_row(b),
         c: forward_row(c),
@@ -188,7 +188,7 @@ fn hadamard_row(v: Quad) -> Quad
 }
 
 // The same of each row.
-fn hadamard_rows(m: Block) -> Block
+fn hadamard_rows(m: Quads) -> Quads
     requires { ⌜ Each wide (flat m) ⌝ }
     ensures { λ r. ⌜ flat r ≡ byRow 4 (through 4 H4) (flat m) ⌝ }
 {
@@ -196,7 +196,7 @@ fn hadamard_rows(m: Block) -> Block
     let b = m.b;
     let c = m.c;
     let d = m.d;
-    Block {
+    Quads {
         a: hadamard_row(a),
         b: hadamard_row(b),
         c: hadamard_row(c),

@@ -69,7 +69,7 @@ unfolding quantized forward levelBy turned grid tab inverse rescaled scaledBy
 rows-before-columns = (refl, refl, refl, refl)
 
 pub rebuilt-not-included : RebuiltNotIncluded
-unfolding quantized forward levelBy inZigzag inPlaces turned grid tab inverse rescaled scaledBy rebuild.samplesOf rebuild.added clip first inside firstOutside
+unfolding quantized forward levelBy inZigzag inPlaces turned grid tab inverse rescaled scaledBy rebuild.rebuiltSamples rebuild.added clip first inside firstOutside
 rebuilt-not-included h =
     let e : _≡_ {A = ℕ} 128 127 = ap (λ (l : List ℕ). getD l 11 0) (h 4 (replicate 16 128) corner28 refl) in
     omega arith

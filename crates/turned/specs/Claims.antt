@@ -10,7 +10,7 @@ use Rattle.transform.specs.Forward.{forward}
 use Rattle.transform.specs.Matrix.{Matrix, product, transposed, raster, entries}
 use Rattle.residual.specs.Entry.{levelsTests}
 use Rattle.residual.specs.Levels.{quantized, levelsOf}
-use Rattle.residual.specs.Rebuild.{samplesOf, numbersOf}
+use Rattle.residual.specs.Rebuild.{rebuiltSamples, rescaledOf}
 use Rattle.predict.specs.Samples.{mask}
 use Rattle.predict.specs.Rules.{predicted, permitted}
 use Rattle.turned.specs.Square.{turnedBlock, turnedSamples}
@@ -49,7 +49,7 @@ NoOthersTurn = (m m′ : ℕ) → m < 9 → m′ < 9 → Correspond m m′ → B
 -- "Rebuilt samples aren't included, since rows are halved before columns": this, of every residual block that `levels` accepts,
 abbrev pub RebuiltTurn : Type 0
 RebuiltTurn = (qp : ℕ) (prediction : List ℕ) (x : List ℤ) → chain (levelsTests qp x x) ≡ pass
-    → samplesOf (turnedSamples prediction) (numbersOf qp (levelsOf qp (turnedBlock x))) ≡ turnedSamples (samplesOf prediction (numbersOf qp (levelsOf qp x)))
+    → rebuiltSamples (turnedSamples prediction) (rescaledOf qp (levelsOf qp (turnedBlock x))) ≡ turnedSamples (rebuiltSamples prediction (rescaledOf qp (levelsOf qp x)))
 
 -- is false
 abbrev pub RebuiltNotIncluded : Type 0

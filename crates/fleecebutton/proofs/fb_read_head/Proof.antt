@@ -7,14 +7,14 @@ use borrow.Author.Needs.{needs}
 use Rattle.record.specs.Entry.{ReadsHead, widthOf, heightOf}
 use Rattle.record.specs.declared.Head.{Head}
 use Rattle.record.specs.declared.Head.the-variants.{Legal, Refused}
-use Rattle.plane.proofs.Entry.{head-legal}
+use Rattle.record.proofs.Heads.{head-told}
 use Rattle.fleecebutton.proofs.Words.{size-sent}
 use Rattle.fleecebutton.proofs.fb_read_head.Statement.{statement}
 use Rattle.fleecebutton.proofs.fb_read_head.Tie as tie
 
 -- a size that comes back is one of a picture
 small : (file : List ℕ) (h : Head) → ReadsHead file h → (widthOf h ≤ 128) × (heightOf h ≤ 128)
-small file (Legal width height) p = let l = head-legal file p refl in (l .sound .wide, l .sound .high)
+small file (Legal width height rows long) p = let t = head-told file p refl in (t .sized .wide, t .sized .high)
 small file (Refused r) p = (omega arith, omega arith)
 
 of-head-requires : tie.Need-of-head-requires

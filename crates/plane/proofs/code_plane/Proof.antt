@@ -7,8 +7,10 @@ use borrow.Author.Needs.{needs}
 use borrow.Author.Tests.{not-true, not-false}
 use Rattle.quantizer.proofs.Range.{built-legal, built-refused}
 use Rattle.picture.proofs.Plane.{samples-fit}
-use Rattle.picture.specs.Plane.{layoutOf}
+use lib.ListN.{length}
+use Rattle.lists.specs.Parts.{over}
 use Rattle.record.specs.Entry.{sizeHolds}
+use Rattle.record.specs.Records.{fileLength}
 use Rattle.plane.specs.Code.{fileFrom, planeFrom}
 use Rattle.plane.specs.Decode.{cleared}
 use Rattle.plane.proofs.CodedOutcome.{bad-size, plane-missed, file-missed, rebuilt-missed, high-quantizer, plane-coded}
@@ -39,88 +41,71 @@ returns-2 c =
     let s = c .before .before .before .before .before .before in
     plane-missed _ _ _ (s .args .plane .now) (s .args .file .now) (s .args .rebuilt .now) (sized (c .before)) (c .if2 .taken)
 
-mul-if3 : tie.Need-mul-if3
-mul-if3 c = let f = small (c .before) in omega arith
-
-add-if3 : tie.Need-add-if3
-add-if3 c = let f = small (c .before) in omega arith
+file-length-requires : tie.Need-file-length-requires
+file-length-requires c κs = small (c .before)
 
 returns-3 : tie.Need-returns-3
 returns-3 c =
-    let P = c .before in
+    let G = c .before in
+    let P = G .before in
     let s = P .before .before .before .before .before .before in
-    file-missed _ _ _ (s .args .plane .now) (s .args .file .now) (s .args .rebuilt .now) (sized (P .before)) (P .if2 .left) (c .if3 .taken)
+    file-missed _ _ _ (s .args .plane .now) (s .args .file .now) (s .args .rebuilt .now) (sized (P .before)) (P .if2 .left) (λ e. c .if3 .taken (e ∙ sym (G .file-length .ensures)))
 
-mul-if4 : tie.Need-mul-if4
-mul-if4 c = search needs
+-- the file area is as long as it must be
+area : (c : tie.Else3)
+    → let s = c .before .before .before .before .before .before .before .before in
+    length (s .args .file .now) ≡ fileLength (s .args .width * s .args .height)
+area c = c .if3 .left ∙ c .before .file-length .ensures
 
 returns-4 : tie.Need-returns-4
 returns-4 c =
     let F = c .before in
-    let P = F .before in
+    let P = F .before .before in
     let s = P .before .before .before .before .before .before in
-    rebuilt-missed _ _ _ (s .args .plane .now) (s .args .file .now) (s .args .rebuilt .now) (sized (P .before)) (P .if2 .left) (F .if3 .left) (c .if4 .taken)
-
-new-requires : tie.Need-new-requires
-new-requires c κs = search needs
-
-enum-known-quantizer : tie.Need-enum-known-quantizer
-enum-known-quantizer c = search needs
-
-enum-told : tie.Need-enum-told
-enum-told c = search needs
+    rebuilt-missed _ _ _ (s .args .plane .now) (s .args .file .now) (s .args .rebuilt .now) (sized (P .before)) (P .if2 .left) (area F) (c .if4 .taken)
 
 returns-5 : tie.Need-returns-5
 returns-5 c =
     let N = c .before .before in
     let R = N .before in
     let F = R .before in
-    let P = F .before in
+    let P = F .before .before in
     let s = P .before .before .before .before .before .before in
-    high-quantizer _ _ _ (s .args .plane .now) (s .args .file .now) (s .args .rebuilt .now) (sized (P .before)) (P .if2 .left) (F .if3 .left) (R .if4 .left)
+    high-quantizer _ _ _ (s .args .plane .now) (s .args .file .now) (s .args .rebuilt .now) (sized (P .before)) (P .if2 .left) (area F) (R .if4 .left)
     (built-refused _ (N .new .ensures) (c .enum-told .given .1))
-
-clear-requires : tie.Need-clear-requires
-clear-requires c κs = search needs
 
 code-file-requires : tie.Need-code-file-requires
 code-file-requires c κs =
-    let Q = c .before .before .before .before .before .before .before in
+    let O = c .before .before .before .before .before .before in
+    let Q = O .before .before in
     let N = Q .before .before in
     let R = N .before in
     let F = R .before in
-    let P = F .before in
+    let P = F .before .before in
+    let s = P .before .before .before .before .before .before in
     let q = built-legal _ (N .new .ensures) (Q .quantizer .given .1) in
-    ((sound-of _ _ (sized (P .before)), rw (q .0) (q .1), P .if2 .left), (F .if3 .left, search needs))
-
-mul-t15 : tie.Need-mul-t15
-mul-t15 c = search needs
-
-add-t12 : tie.Need-add-t12
-add-t12 c = search needs
-
-same-length : tie.Need-same-length
-same-length c = search needs
-
-same-length-2 : tie.Need-same-length-2
-same-length-2 c = search needs
+    let l = O .one-slice .ensures in
+    rw l (((sound-of _ _ (sized (P .before)), rw (q .0) (q .1), P .if2 .left), (omega (arith, area F), search needs)))
 
 returns-6 : tie.Need-returns-6
 returns-6 c =
     let B = c .before .before .before .before in
     let C = B .before .before .before .before .before in
-    let Q = C .before .before .before in
+    let O = C .before .before in
+    let Q = O .before .before in
     let N = Q .before .before in
     let R = N .before in
     let F = R .before in
-    let P = F .before in
+    let P = F .before .before in
     let s = P .before .before .before .before .before .before in
-    let l = layoutOf (s .args .width) (s .args .height) in
     let q = built-legal _ (N .new .ensures) (Q .quantizer .given .1) in
     let start = C .clear .ensures ∙ ap cleared (R .if4 .left) in
     let k = Q .quantizer .given .0 .0 .qp in
-    plane-coded _ _ _ (s .args .plane .now) (s .args .file .now) (s .args .rebuilt .now) (sized (P .before)) (P .if2 .left) (F .if3 .left) (R .if4 .left) (q .0) (q .1)
-    (B .code-file .ensures .0 ∙ ap (fileFrom l k (s .args .plane .now)) start) (B .code-file .ensures .1 ∙ ap (planeFrom l k (s .args .plane .now)) start)
+    let l = O .one-slice .ensures in
+    plane-coded _ _ _ (s .args .plane .now) (s .args .file .now) (s .args .rebuilt .now) (sized (P .before)) (P .if2 .left) (area F) (R .if4 .left) (q .0) (q .1)
+    (B .code-file .ensures .0 ∙ (λ i. length (fileFrom (l i) k (s .args .plane .now) (start i))))
+    (B .code-file .ensures .1 .0 ∙ (λ i. over (fileFrom (l i) k (s .args .plane .now) (start i)) (s .args .file .now)))
+    (B .code-file .ensures .1 .1 ∙ (λ i. planeFrom (l i) k (s .args .plane .now) (start i)))
 
 pub code-plane-spec : {M : Type 1} → statement M
 code-plane-spec =
@@ -131,19 +116,17 @@ code-plane-spec =
     mul-count
     mul-if2
     returns-2
-    mul-if3
-    add-if3
+    file-length-requires
     returns-3
-    mul-if4
+    (λ c. search needs)
     returns-4
-    new-requires
-    enum-known-quantizer
-    enum-told
+    (λ c κs. search needs)
+    (λ c. search needs)
+    (λ c. search needs)
     returns-5
-    clear-requires
+    (λ c κs. search needs)
+    (λ c κs. search needs)
     code-file-requires
-    mul-t15
-    add-t12
-    same-length
-    same-length-2
+    (λ c. search needs)
+    (λ c. search needs)
     returns-6)

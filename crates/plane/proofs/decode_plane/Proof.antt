@@ -1,7 +1,7 @@
 -- `plane::decode_plane` meets its contract: the head, and then what is tested behind it. Assumes nothing.
 use mathlib.Core.Path.{_≡_, sym, ap, _∙_}
 use borrow.Author.Needs.{needs}
-use Rattle.plane.proofs.Entry.{LegalHead, head-legal, head-refused, decodes-by}
+use Rattle.plane.proofs.Entry.{LegalHead, head-read, head-refused, decodes-by}
 use Rattle.plane.proofs.decode_plane.Statement.{statement}
 use Rattle.plane.proofs.decode_plane.Tie as tie
 
@@ -19,7 +19,7 @@ decode-requires c κs =
     let W = c .before .before in
     let H = W .before .before in
     let s = H .before .before .before in
-    head-legal (s .args .file .now) (H .read-head .ensures) (W .width .given .1) .sound
+    head-read (s .args .file .now) (H .read-head .ensures) (W .width .given .1) .sound
 
 returns : tie.Need-returns
 returns c =
@@ -37,7 +37,7 @@ returns-2 c =
     let W = D .before .before .before in
     let H = W .before .before in
     let s = H .before .before .before in
-    decodes-by (s .args .file .now) (s .args .plane .now) (head-legal (s .args .file .now) (H .read-head .ensures) (W .width .given .1)) (D .decode .ensures)
+    decodes-by (s .args .file .now) (s .args .plane .now) (head-read (s .args .file .now) (H .read-head .ensures) (W .width .given .1)) (D .decode .ensures)
 
 pub decode-plane-spec : {M : Type 1} → statement M
 decode-plane-spec =

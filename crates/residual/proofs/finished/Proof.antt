@@ -12,7 +12,7 @@ use Rattle.refusal.specs.declared.Refusal.the-variants.{Range}
 use Rattle.refusal.proofs.Same.{says}
 use Rattle.residual.specs.Entry.{firstWide}
 use Rattle.residual.specs.Order.{inZigzag}
-use Rattle.residual.specs.Rebuild.{samplesOf}
+use Rattle.residual.specs.Rebuild.{rebuiltSamples}
 use Rattle.residual.proofs.Entry.{range-far, range-fine, range-each}
 use Rattle.residual.proofs.finished.Statement.{statement}
 use Rattle.residual.proofs.finished.Tie as tie
@@ -69,8 +69,8 @@ returns-2 c =
     let e = k .before .before in
     let s = start e in
     let f = range-fine (s .args .numbers) (far e) in
-    let made = r .rebuild-over .ensures ∙ ap (λ (l : List ℕ). samplesOf l (s .args .numbers)) (predicted k) in
-    record { says = says (sym f); wrote = made ∙ ap (λ (v : Verdict Refusal). written v (samplesOf (s .args .prediction .now) (s .args .numbers)) (s .args .out .now)) (sym f) }
+    let made = r .rebuild-over .ensures ∙ ap (λ (l : List ℕ). rebuiltSamples l (s .args .numbers)) (predicted k) in
+    record { says = says (sym f); wrote = made ∙ ap (λ (v : Verdict Refusal). written v (rebuiltSamples (s .args .prediction .now) (s .args .numbers)) (s .args .out .now)) (sym f) }
 
 pub finished-spec : {M : Type 1} → statement M
 finished-spec =

@@ -10,7 +10,7 @@ use Rattle.refusal.specs.declared.Refusal.{Refusal}
 use Rattle.refusal.proofs.Same.{says}
 use Rattle.residual.specs.Entry.{levelTests, rangeTest, Finishes}
 use Rattle.residual.specs.Rescale.{rescaled}
-use Rattle.residual.specs.Rebuild.{numbersOf, samplesOf}
+use Rattle.residual.specs.Rebuild.{rescaledOf, rebuiltSamples}
 use Rattle.residual.proofs.Entry.{Accepted, accepted-legal, accepted-refused}
 use Rattle.residual.proofs.Order.{places-each}
 use borrow.Author.Needs.{needs}
@@ -49,8 +49,8 @@ returns : tie.Need-returns
 returns c =
     let r = c .before in
     let a = r .before .before .before .before .before .args in
-    let v = chain-refused (levelTests 16 0 (a .qp) (length (a .prediction .now)) (a .levels .now) (length (a .out .now))) (rangeTest (numbersOf (a .qp) (a .levels .now)) ∷ []) _ (accepted-refused 16 0 (a .qp) (length (a .prediction .now)) (a .levels .now) (length (a .out .now)) (r .before .before .accepted .ensures) (r .refusal .given .1)) in
-    record { says = says (sym v); wrote = ap (λ (w : Verdict Refusal). written w (samplesOf (a .prediction .now) (numbersOf (a .qp) (a .levels .now))) (a .out .now)) (sym v) }
+    let v = chain-refused (levelTests 16 0 (a .qp) (length (a .prediction .now)) (a .levels .now) (length (a .out .now))) (rangeTest (rescaledOf (a .qp) (a .levels .now)) ∷ []) _ (accepted-refused 16 0 (a .qp) (length (a .prediction .now)) (a .levels .now) (length (a .out .now)) (r .before .before .accepted .ensures) (r .refusal .given .1)) in
+    record { says = says (sym v); wrote = ap (λ (w : Verdict Refusal). written w (rebuiltSamples (a .prediction .now) (rescaledOf (a .qp) (a .levels .now))) (a .out .now)) (sym v) }
 
 same-length : tie.Need-same-length
 same-length c = search needs
@@ -64,7 +64,7 @@ returns-2 c =
     let f = learnt q in
     let a = q .before .before .before .before .before .args in
     let d = r .rescaled .ensures ∙ (λ i. rescaled (f .number i) (p .placed .ensures i)) in
-    let v = chain-passed (levelTests 16 0 (a .qp) (length (a .prediction .now)) (a .levels .now) (length (a .out .now))) (rangeTest (numbersOf (a .qp) (a .levels .now)) ∷ []) (f .passed) in
+    let v = chain-passed (levelTests 16 0 (a .qp) (length (a .prediction .now)) (a .levels .now) (length (a .out .now))) (rangeTest (rescaledOf (a .qp) (a .levels .now)) ∷ []) (f .passed) in
     let x = subst (λ (z : List ℤ). Finishes (a .prediction .now) z (a .out .now) (g .finished .result) (g .finished .last .1 .1 .0)) d (g .finished .ensures) in
     record { says = rw v (x .says); wrote = rw v (x .wrote) }
 

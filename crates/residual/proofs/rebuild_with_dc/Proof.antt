@@ -14,7 +14,7 @@ use Rattle.refusal.proofs.Same.{says}
 use Rattle.residual.specs.Entry.{levelTests, rangeTest, Finishes}
 use Rattle.residual.specs.Order.{inPlaces}
 use Rattle.residual.specs.Rescale.{rescaled}
-use Rattle.residual.specs.Rebuild.{numbersOf, numbersWithDc, samplesOf}
+use Rattle.residual.specs.Rebuild.{rescaledOf, rescaledWithDc, rebuiltSamples}
 use Rattle.residual.proofs.Entry.{Accepted, accepted-legal, accepted-refused}
 use Rattle.residual.proofs.Order.{places-each}
 use borrow.Author.Needs.{needs}
@@ -73,8 +73,8 @@ returns : tie.Need-returns
 returns c =
     let r = c .before in
     let a = r .before .before .before .before .before .args in
-    let v = chain-refused (levelTests 15 1 (a .qp) (length (a .prediction .now)) (a .ac .now) (length (a .out .now))) (rangeTest (numbersWithDc (a .qp) (a .dc) (a .ac .now)) ∷ []) _ (accepted-refused 15 1 (a .qp) (length (a .prediction .now)) (a .ac .now) (length (a .out .now)) (r .before .before .accepted .ensures) (r .refusal .given .1)) in
-    record { says = says (sym v); wrote = ap (λ (w : Verdict Refusal). written w (samplesOf (a .prediction .now) (numbersWithDc (a .qp) (a .dc) (a .ac .now))) (a .out .now)) (sym v) }
+    let v = chain-refused (levelTests 15 1 (a .qp) (length (a .prediction .now)) (a .ac .now) (length (a .out .now))) (rangeTest (rescaledWithDc (a .qp) (a .dc) (a .ac .now)) ∷ []) _ (accepted-refused 15 1 (a .qp) (length (a .prediction .now)) (a .ac .now) (length (a .out .now)) (r .before .before .accepted .ensures) (r .refusal .given .1)) in
+    record { says = says (sym v); wrote = ap (λ (w : Verdict Refusal). written w (rebuiltSamples (a .prediction .now) (rescaledWithDc (a .qp) (a .dc) (a .ac .now))) (a .out .now)) (sym v) }
 
 same-length : tie.Need-same-length
 same-length c = search needs
@@ -89,7 +89,7 @@ returns-2 c =
     let s = q .before .before .before .before .before in
     let a = s .args in
     let d = r .rescaled .ensures ∙ (λ i. rescaled (f .number i) ((r .before .in-places .ensures ∙ ap inPlaces (filled k)) i)) in
-    let v = chain-passed (levelTests 15 1 (a .qp) (length (a .prediction .now)) (a .ac .now) (length (a .out .now))) (rangeTest (numbersWithDc (a .qp) (a .dc) (a .ac .now)) ∷ []) (f .passed) in
+    let v = chain-passed (levelTests 15 1 (a .qp) (length (a .prediction .now)) (a .ac .now) (length (a .out .now))) (rangeTest (rescaledWithDc (a .qp) (a .dc) (a .ac .now)) ∷ []) (f .passed) in
     let x = subst (λ (z : List ℤ). Finishes (a .prediction .now) z (a .out .now) (g .finished .result) (g .finished .last .1 .1 .0)) (λ i. set (d i) 0 (toZ-ofZ w32 (a .dc) (s .fits .dc) i)) (g .finished .ensures) in
     record { says = rw v (x .says); wrote = rw v (x .wrote) }
 

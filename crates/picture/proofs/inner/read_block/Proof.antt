@@ -8,7 +8,7 @@ use borrow.Author.Needs.{needs}
 use lib.ListN.{getD}
 use Rattle.lists.proofs.Tab.{Squaring, squaring-none, squaring-more, squaring-row, squaring-done}
 use Rattle.picture.specs.Order.{blockColumn, blockRow}
-use Rattle.picture.specs.Plane.{stride, samplesOf}
+use Rattle.picture.specs.Plane.{stride, planeLength}
 use Rattle.picture.proofs.Plane.{samples-fit, spot-in, block-by}
 use Rattle.picture.proofs.inner.read_block.Statement.{statement}
 use Rattle.picture.proofs.inner.read_block.Tie as tie
@@ -45,7 +45,7 @@ loop2-holds c = c .before .loop .inv
 here : (c : tie.In-loop2 Inv-loop2 μ-loop2 Inv-loop μ-loop)
     → let f = c .before .before .before .before in
     let s = f .before .before .before in
-    f .first-place .result + c .before .before .before .loop .y * (16 * s .args .layout .width) + c .before .loop2 .x < samplesOf (s .args .layout)
+    f .first-place .result + c .before .before .before .loop .y * (16 * s .args .layout .width) + c .before .loop2 .x < planeLength 16 (s .args .layout)
 here c =
     let f = c .before .before .before .before in
     let s = f .before .before .before in
@@ -103,7 +103,7 @@ returns : tie.Need-returns Inv-loop2 μ-loop2 Inv-loop μ-loop
 returns c =
     let f = c .before .before in
     let a = f .before .before .before .args in
-    rw (block-by 4 (stride (a .layout)) (blockColumn (a .layout) (a .m) (a .b)) (blockRow (a .layout) (a .m) (a .b)) (a .plane .now), ← (f .first-place .ensures))
+    rw (block-by 4 (stride 16 (a .layout)) (blockColumn (a .layout) (a .m) (a .b)) (blockRow (a .layout) (a .m) (a .b)) (a .plane .now), ← (f .first-place .ensures))
     (squaring-done _ _ (c .before .loop .inv) (search needs))
 
 pub read-block-spec : {M : Type 1} → statement M

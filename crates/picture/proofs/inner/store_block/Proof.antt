@@ -7,7 +7,7 @@ use borrow.Author.Needs.{needs}
 use lib.ListN.{getD}
 use Rattle.lists.proofs.Stores.{Storing, storing-none, storing-more, storing-done}
 use Rattle.picture.specs.Order.{blockColumn, blockRow}
-use Rattle.picture.specs.Plane.{stride, samplesOf}
+use Rattle.picture.specs.Plane.{stride, planeLength}
 use Rattle.picture.proofs.Plane.{samples-fit, spot-in, stored-by}
 use Rattle.picture.proofs.inner.store_block.Statement.{statement}
 use Rattle.picture.proofs.inner.store_block.Tie as tie
@@ -38,7 +38,7 @@ array-read-plane c = search needs
 here : (c : tie.In-loop Inv-loop μ-loop)
     → let f = c .before .before in
     let s = f .before .before .before in
-    goes (16 * s .args .layout .width) (f .first-place .result) (c .before .loop .k) < samplesOf (s .args .layout)
+    goes (16 * s .args .layout .width) (f .first-place .result) (c .before .loop .k) < planeLength 16 (s .args .layout)
 here c =
     let f = c .before .before in
     let s = f .before .before .before in
@@ -73,7 +73,7 @@ returns : tie.Need-returns Inv-loop μ-loop
 returns c =
     let f = c .before .before in
     let a = f .before .before .before .args in
-    rw (stored-by 4 (stride (a .layout)) (blockColumn (a .layout) (a .m) (a .b)) (blockRow (a .layout) (a .m) (a .b)) (a .t5) (a .plane .now), ← (f .first-place .ensures))
+    rw (stored-by 4 (stride 16 (a .layout)) (blockColumn (a .layout) (a .m) (a .b)) (blockRow (a .layout) (a .m) (a .b)) (a .t5) (a .plane .now), ← (f .first-place .ensures))
     (storing-done _ _ 16 (c .before .loop .inv) (search needs))
 
 pub store-block-spec : {M : Type 1} → statement M

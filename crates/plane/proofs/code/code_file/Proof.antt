@@ -1,97 +1,110 @@
--- `plane::code::code_file` meets its contract: the head, and a loop over macroblocks, each with its own part of the file. Assumes nothing.
+-- `plane::code::code_file` meets its contract: the head, and a loop over macroblocks, each over the front of what is left. Assumes nothing.
 use mathlib.Core.Path.{_≡_, refl, sym, ap, _∙_}
-use Prim.Native.Nat.{_*_, _-_, _≤_}
+use Prim.Native.Nat.{_+_, _*_, _-_, _≤_}
+use lib.ListN.{length}
+use Rattle.lists.proofs.Over.{length-over}
+use Rattle.record.specs.Kinds.{inFours, lengthOf}
+use Rattle.record.specs.Records.{headOf}
+use Rattle.record.proofs.Back.{length-head}
+use Rattle.macroblock.proofs.RecordFrom.{length-record-from}
 use native.Mathlib.Omega.{arith}
 use borrow.Author.Needs.{needs}
 use Rattle.picture.proofs.Plane.{samples-fit}
-use Rattle.picture.specs.Plane.{layoutOf}
-use Rattle.plane.proofs.Coding.{FileCoded, file-begun, file-more, file-done}
+use Rattle.plane.proofs.CodedFile.{length-to}
+use Rattle.plane.proofs.Coding.{FileCoded, file-begun, same-area, room-left, file-more, file-done}
 use Rattle.plane.proofs.code.code_file.Statement.{statement}
 use Rattle.plane.proofs.code.code_file.Tie as tie
 
 abbrev Inv-loop : tie.InvT-loop
-Inv-loop width height quantizer plane file₀ rebuilt₀ count m₀ file rebuilt m = FileCoded (layoutOf width height) (quantizer .qp) plane rebuilt₀ file rebuilt m
+Inv-loop layout quantizer plane file₀ rebuilt₀ place₀ count m₀ file rebuilt place m = FileCoded layout (quantizer .qp) plane rebuilt₀ file₀ file rebuilt place m
 
 abbrev μ-loop : tie.MeasureT-loop
-μ-loop width height quantizer plane file₀ rebuilt₀ count m₀ file rebuilt m = count - m
+μ-loop layout quantizer plane file₀ rebuilt₀ place₀ count m₀ file rebuilt place m = count - m
 
-small : (s : tie.Start Inv-loop μ-loop) → s .args .width * s .args .height ≤ 16384
+small : (s : tie.Start Inv-loop μ-loop) → s .args .layout .width * s .args .layout .height ≤ 16384
 small s = omega (arith, samples-fit (s .pre .0 .0))
 
 cast-write-head : tie.Need-cast-write-head Inv-loop μ-loop
-cast-write-head c = let w = c .before .before .before .pre .0 .0 .wide in record { fits = omega (arith, w) }
+cast-write-head c = let w = c .before .before .before .before .pre .0 .0 .wide in record { fits = omega (arith, w) }
 
 cast-write-head-2 : tie.Need-cast-write-head-2 Inv-loop μ-loop
-cast-write-head-2 c = let h = c .before .before .before .pre .0 .0 .high in record { fits = omega (arith, h) }
-
-sub-write-head : tie.Need-sub-write-head Inv-loop μ-loop
-sub-write-head c = search needs
-
-part-write-head-start : tie.Need-part-write-head-start Inv-loop μ-loop
-part-write-head-start c = search needs
-
-part-write-head-end : tie.Need-part-write-head-end Inv-loop μ-loop
-part-write-head-end c = search needs
+cast-write-head-2 c = let h = c .before .before .before .before .before .pre .0 .0 .high in record { fits = omega (arith, h) }
 
 write-head-requires : tie.Need-write-head-requires Inv-loop μ-loop
-write-head-requires c κs = search needs
+write-head-requires c κs = let r = c .before .before .before .before .before .before .pre .1 .0 in omega (arith, r)
 
 mul-count : tie.Need-mul-count Inv-loop μ-loop
-mul-count c = let f = small (c .before .before .before .before .before .before .before) in omega arith
+mul-count c = let f = small (c .before .before .before .before .before .before .before .before .before .before) in omega arith
 
 loop-holds : tie.Need-loop-holds Inv-loop μ-loop
 loop-holds c =
-    let W = c .before .before in
-    let s = W .before .before .before .before .before in
-    file-begun _ _ (s .args .plane .now) _ (s .args .file .now) (W .write-head .last .1 .1 .0) (s .pre .1 .1) (s .pre .1 .0) (W .write-head .ensures) (c .before .file .given .1)
+    let W = c .before .before .before in
+    let s = W .before .before .before .before .before .before .before in
+    file-begun (s .args .layout) (s .args .quantizer .qp) (s .args .plane .now) (s .args .rebuilt .now) (s .args .file .now) (s .pre .1 .1) (s .pre .1 .0) (W .write-head .ensures .0) (W .write-head .ensures .1)
 
-mul-at : tie.Need-mul-at Inv-loop μ-loop
-mul-at c = let f = small (c .before .before .before .before .before .before .before .before .before) in omega arith
-
-add-at : tie.Need-add-at Inv-loop μ-loop
-add-at c = let f = small (c .before .before .before .before .before .before .before .before .before) in omega arith
-
-add-end : tie.Need-add-end Inv-loop μ-loop
-add-end c = let f = small (c .before .before .before .before .before .before .before .before .before) in omega arith
-
-sub-code-macroblock : tie.Need-sub-code-macroblock Inv-loop μ-loop
-sub-code-macroblock c = search needs
+-- what is left behind the place has room for record m
+left : (c : tie.In-loop Inv-loop μ-loop) → c .before .loop .place + lengthOf inFours ≤ length (c .before .loop .file)
+left c =
+    let L = c .before in
+    let s = L .before .before .before .before .before .before .before .before .before .before .before in
+    let r = room-left (s .args .layout) (s .args .quantizer .qp) (s .args .plane .now) _ _ (L .loop .inv) (c .loop-test .taken) in
+    let e = same-area (s .args .layout) (s .args .quantizer .qp) (s .args .plane .now) _ _ (L .loop .inv) in
+    omega (arith, r, e)
 
 part-code-macroblock-start : tie.Need-part-code-macroblock-start Inv-loop μ-loop
-part-code-macroblock-start c = search needs
+part-code-macroblock-start c = let r = left c in omega (arith, r)
 
-part-code-macroblock-end : tie.Need-part-code-macroblock-end Inv-loop μ-loop
-part-code-macroblock-end c = let r = c .before .loop .inv .room in omega (arith, r)
+sub-code-macroblock : tie.Need-sub-code-macroblock Inv-loop μ-loop
+sub-code-macroblock c = let r = left c in omega (arith, r)
 
 code-macroblock-requires : tie.Need-code-macroblock-requires Inv-loop μ-loop
 code-macroblock-requires c κs =
     let I = c .before .before in
     let L = I .before in
-    let s = L .before .before .before .before .before .before .before .before in
+    let s = L .before .before .before .before .before .before .before .before .before .before .before in
     let p = s .pre .0 in
+    let r = left I in
     ((record { sound = p .0; macroblock = I .loop-test .taken; block = omega arith }, p .1, p .2), (search needs, L .loop .inv .kept))
 
-add-m : tie.Need-add-m Inv-loop μ-loop
-add-m c = search needs
-
-loop-less : tie.Need-loop-less Inv-loop μ-loop
-loop-less c = search needs
+add-place : tie.Need-add-place Inv-loop μ-loop
+add-place c =
+    let C = c .before .before .before .before in
+    let I = C .before .before .before in
+    let L = I .before in
+    let s = L .before .before .before .before .before .before .before .before .before .before .before in
+    let n = C .code-macroblock .ensures .0 ∙ length-record-from _ _ (s .args .plane .now) _ _ in
+    let p = L .loop .inv .next ∙ length-to (s .args .layout) (s .args .quantizer .qp) (s .args .plane .now) (s .args .rebuilt .now) (L .loop .m) in
+    let f = small s in
+    record { fits = omega (arith, n, p, f, I .loop-test .taken) }
 
 loop-again : tie.Need-loop-again Inv-loop μ-loop
 loop-again c =
-    let B = c .before .before .before .before in
-    let I = B .before .before .before in
+    let C = c .before .before .before .before in
+    let I = C .before .before .before in
     let L = I .before in
-    file-more _ _ _ _ (B .code-macroblock .last .1 .1 .1 .1 .1 .0) (L .loop .inv) (I .loop-test .taken) (B .code-macroblock .ensures .0) (B .code-macroblock .ensures .1) (c .before .before .before .file2 .given .1)
-
-same-length : tie.Need-same-length Inv-loop μ-loop
-same-length c = let r = c .before .loop .inv .room in omega (arith, r)
-
-same-length-2 : tie.Need-same-length-2 Inv-loop μ-loop
-same-length-2 c = let r = c .before .loop .inv .kept in omega (arith, r)
+    let e = C .code-macroblock .ensures in
+    let s = L .before .before .before .before .before .before .before .before .before .before .before in
+    file-more _ _ _ _ _ (s .pre .0 .0 .some) (L .loop .inv) (I .loop-test .taken) refl (e .0) (e .1 .0) (e .1 .1)
 
 returns : tie.Need-returns Inv-loop μ-loop
-returns c = file-done _ _ _ _ (c .before .loop .inv) (c .loop-test .left)
+returns c =
+    let L = c .before in
+    let W = L .before .before .before .before in
+    let s = W .before .before .before .before .before .before .before in
+    let d = file-done (s .args .layout) (s .args .quantizer .qp) (s .args .plane .now) (s .args .rebuilt .now) (s .args .file .now) (W .write-head .ensures .0) (L .loop .inv) (c .loop-test .left) in
+    (d .0, (d .1, d .2))
+
+same-length : tie.Need-same-length Inv-loop μ-loop
+same-length c =
+    let L = c .before in
+    let W = L .before .before .before .before in
+    let s = W .before .before .before .before .before .before .before in
+    let e = same-area (s .args .layout) (s .args .quantizer .qp) (s .args .plane .now) _ _ (L .loop .inv) in
+    let h = ap length (W .write-head .ensures .0) ∙ length-over (headOf (s .args .layout .width) (s .args .layout .height)) (s .args .file .now) (omega (arith, length-head (s .args .layout .width) (s .args .layout .height), s .pre .1 .0)) in
+    omega (arith, e, h)
+
+same-length-2 : tie.Need-same-length-2 Inv-loop μ-loop
+same-length-2 c = let k = c .before .loop .inv .kept in omega (arith, k)
 
 pub code-file-spec : {M : Type 1} → statement M
 code-file-spec =
@@ -101,21 +114,16 @@ code-file-spec =
     μ-loop
     cast-write-head
     cast-write-head-2
-    sub-write-head
-    part-write-head-start
-    part-write-head-end
     write-head-requires
     mul-count
     loop-holds
-    mul-at
-    add-at
-    add-end
     sub-code-macroblock
     part-code-macroblock-start
-    part-code-macroblock-end
+    (λ c. search needs)
     code-macroblock-requires
-    add-m
-    loop-less
+    add-place
+    (λ c. search needs)
+    (λ c. search needs)
     loop-again
     same-length
     same-length-2

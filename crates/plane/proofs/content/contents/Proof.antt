@@ -4,106 +4,108 @@ use mathlib.Core.List.{List}
 use Prim.Native.Nat.{ℕ, _+_, _-_, _*_, _≤_, _<_}
 use native.Mathlib.Omega.{arith}
 use borrow.Author.Needs.{needs}
+use lib.ListN.{length}
 use Rattle.lists.proofs.Chains.{chain-none, chain-one, chain-stop}
 use Rattle.lists.specs.Chain.{chain, pass, Test}
 use Rattle.lists.specs.Parts.{parts}
 use Rattle.refusal.specs.Number.{said}
 use Rattle.refusal.specs.declared.Refusal.{Refusal}
+use Rattle.picture.specs.declared.Layout.{Layout}
 use Rattle.picture.proofs.Plane.{samples-fit}
-use Rattle.picture.specs.Plane.{layoutOf}
-use Rattle.plane.specs.Content.{contentTests}
+use Rattle.macroblock.specs.Content.{contentTests}
 use Rattle.plane.specs.Decode.{recordIn}
-use Rattle.plane.proofs.Files.{part-is}
+use Rattle.plane.proofs.Walking.{Walking, walking-none, walking-more, part-inside, part-long, part-is}
 use Rattle.plane.proofs.content.contents.Statement.{statement}
 use Rattle.plane.proofs.content.contents.Tie as tie
 
 -- the tests of record m
-abbrev tests : (width height : ℕ) → List ℕ → ℕ → List (Test Refusal)
-tests width height file m = contentTests (layoutOf width height) m (recordIn file m)
+abbrev tests : Layout → List ℕ → (start m : ℕ) → List (Test Refusal)
+tests layout file start m = contentTests layout m (recordIn file start m)
 
 abbrev Inv-loop : tie.InvT-loop
-Inv-loop width height file count m₀ m = (m ≤ count) × (chain (parts m (tests width height file)) ≡ pass)
+Inv-loop layout start file count place₀ m₀ place m =
+    (m ≤ layout .width * layout .height) × Walking layout file start place m × (chain (parts m (tests layout file start)) ≡ pass)
 
 abbrev μ-loop : tie.MeasureT-loop
-μ-loop width height file count m₀ m = count - m
+μ-loop layout start file count place₀ m₀ place m = count - m
 
-small : (s : tie.Start Inv-loop μ-loop) → s .args .width * s .args .height ≤ 16384
+small : (s : tie.Start Inv-loop μ-loop) → s .args .layout .width * s .args .layout .height ≤ 16384
 small s = omega (arith, samples-fit (s .pre .0))
 
 mul-count : tie.Need-mul-count Inv-loop μ-loop
-mul-count c = let f = small (c .before) in omega arith
+mul-count c = let f = small (c .before .before) in omega arith
+
+abbrev start : tie.After-struct-known Inv-loop μ-loop → tie.Start Inv-loop μ-loop
+start c = c .before .before
 
 loop-holds : tie.Need-loop-holds Inv-loop μ-loop
-loop-holds c = (search needs, chain-none _)
+loop-holds c = (omega arith, walking-none (start c .args .layout) (start c .args .file .now) (start c .args .start), chain-none _)
 
-mul-at : tie.Need-mul-at Inv-loop μ-loop
-mul-at c = let f = small (c .before .before .before) in omega arith
-
-add-at : tie.Need-add-at Inv-loop μ-loop
-add-at c = let f = small (c .before .before .before) in omega arith
+-- what is lent lies in the file
+inside : (c : tie.After-length-from Inv-loop μ-loop) → c .before .before .loop .place + c .length-from .result ≤ length (c .before .before .before .before .before .args .file .now)
+inside c =
+    let L = c .before .before in
+    let s = L .before .before .before in
+    part-inside (s .args .layout) (s .args .file .now) (s .args .start) (s .pre .1) (L .loop .m) (c .before .loop-test .taken) (L .loop .inv .1) (c .length-from .ensures)
 
 add-end : tie.Need-add-end Inv-loop μ-loop
-add-end c = let f = small (c .before .before .before) in omega arith
+add-end c = let h = inside c in search needs
 
-sub-content : tie.Need-sub-content Inv-loop μ-loop
-sub-content c = search needs
+part-test-macroblock-end : tie.Need-part-test-macroblock-end Inv-loop μ-loop
+part-test-macroblock-end c = inside c
 
-part-content-start : tie.Need-part-content-start Inv-loop μ-loop
-part-content-start c = search needs
-
-part-content-end : tie.Need-part-content-end Inv-loop μ-loop
-part-content-end c = let r = c .before .before .before .pre .1 .room in omega (arith, r)
-
-content-requires : tie.Need-content-requires Inv-loop μ-loop
-content-requires c κs = search needs
+test-macroblock-requires : tie.Need-test-macroblock-requires Inv-loop μ-loop
+test-macroblock-requires c κs =
+    let F = c .before in
+    let T = F .before in
+    let L = T .before in
+    let s = L .before .before .before in
+    (record { sound = s .pre .0; macroblock = T .loop-test .taken; block = omega arith }, part-long (s .args .layout) (s .args .file .now) (s .args .start) (s .pre .1) (L .loop .m) (T .loop-test .taken) (L .loop .inv .1) (F .length-from .ensures))
 
 -- what was tested is record m
-tested : (c : tie.After-content Inv-loop μ-loop)
-    → let L = c .before .before .before in
-    let a = L .before .before .args in
-    said (c .content .result) ≡ chain (tests (a .width) (a .height) (a .file .now) (L .loop .m))
+tested : (c : tie.After-test-macroblock Inv-loop μ-loop)
+    → let L = c .before .before .before .before in
+    let a = L .before .before .before .args in
+    said (c .test-macroblock .result) ≡ chain (tests (a .layout) (a .file .now) (a .start) (L .loop .m))
 tested c =
-    let T = c .before .before in
+    let F = c .before .before in
+    let T = F .before in
     let L = T .before in
-    let s = L .before .before in
-    let a = s .args in
-    c .content .ensures
-    ∙ ap (λ (part : List ℕ). chain (contentTests (layoutOf (a .width) (a .height)) (L .loop .m) part)) (part-is (layoutOf (a .width) (a .height)) (a .file .now) (s .pre .1) (L .loop .m) (T .loop-test .taken))
-
-enum-known-refusal : tie.Need-enum-known-refusal Inv-loop μ-loop
-enum-known-refusal c = search needs
+    let s = L .before .before .before in
+    c .test-macroblock .ensures
+    ∙ ap (λ (part : List ℕ). chain (contentTests (s .args .layout) (L .loop .m) part)) (part-is (s .args .layout) (s .args .file .now) (s .args .start) (s .pre .1) (L .loop .m) (T .loop-test .taken) (L .loop .inv .1) (F .length-from .ensures))
 
 returns : tie.Need-returns Inv-loop μ-loop
 returns c =
     let C = c .before .before .before in
-    let T = C .before .before in
+    let T = C .before .before .before in
     let L = T .before in
-    let a = L .before .before .args in
-    sym (chain-stop (tests (a .width) (a .height) (a .file .now)) (a .width * a .height) (L .loop .m) _ (T .loop-test .taken) (L .loop .inv .1) (sym (tested C) ∙ ap said (c .before .refusal .given .1)))
-
-enum-told : tie.Need-enum-told Inv-loop μ-loop
-enum-told c = search needs
+    let a = L .before .before .before .args in
+    sym (chain-stop (tests (a .layout) (a .file .now) (a .start)) (a .layout .width * a .layout .height) (L .loop .m) _ (T .loop-test .taken) (L .loop .inv .2) (sym (tested C) ∙ ap said (c .before .refusal .given .1)))
 
 add-m : tie.Need-add-m Inv-loop μ-loop
-add-m c = search needs
-
-loop-less : tie.Need-loop-less Inv-loop μ-loop
-loop-less c = search needs
+add-m c =
+    let T = c .before .before .before .before .before in
+    let f = small (T .before .before .before .before) in
+    record { fits = omega (arith, f, T .loop-test .taken) }
 
 loop-again : tie.Need-loop-again Inv-loop μ-loop
 loop-again c =
     let C = c .before .before in
-    let T = C .before .before in
-    let L = T .before in
-    let a = L .before .before .args in
-    (search needs, chain-one (tests (a .width) (a .height) (a .file .now)) (L .loop .m) (L .loop .inv .1) ∙ sym (tested C) ∙ ap said (c .enum-told .given .1))
+    let F = C .before .before in
+    let L = F .before .before in
+    let a = L .before .before .before .args in (
+      omega (arith, F .before .loop-test .taken),
+      walking-more (a .layout) (a .file .now) (a .start) (L .loop .m) (L .loop .inv .1) (F .length-from .ensures),
+      chain-one (tests (a .layout) (a .file .now) (a .start)) (L .loop .m) (L .loop .inv .2) ∙ sym (tested C) ∙ ap said (c .enum-told .given .1),
+    )
 
 returns-2 : tie.Need-returns-2 Inv-loop μ-loop
 returns-2 c =
     let L = c .before in
-    let a = L .before .before .args in
-    let z : L .loop .m ≡ a .width * a .height = omega (arith, L .loop .inv .0, c .loop-test .left) in
-    sym (rw z at (L .loop .inv .1))
+    let a = L .before .before .before .args in
+    let z : L .loop .m ≡ a .layout .width * a .layout .height = omega (arith, L .loop .inv .0, c .loop-test .left) in
+    sym (rw z at (L .loop .inv .2))
 
 pub contents-spec : {M : Type 1} → statement M
 contents-spec =
@@ -113,17 +115,16 @@ contents-spec =
     μ-loop
     mul-count
     loop-holds
-    mul-at
-    add-at
+    (λ c κs. search needs)
     add-end
-    sub-content
-    part-content-start
-    part-content-end
-    content-requires
-    enum-known-refusal
+    (λ c. search needs)
+    (λ c. search needs)
+    part-test-macroblock-end
+    test-macroblock-requires
+    (λ c. search needs)
     returns
-    enum-told
+    (λ c. search needs)
     add-m
-    loop-less
+    (λ c. search needs)
     loop-again
     returns-2)

@@ -4,92 +4,79 @@ use mathlib.Core.List.{List}
 use Prim.Native.Nat.{ℕ, _+_, _-_, _*_, _≤_, _<_}
 use native.Mathlib.Omega.{arith}
 use borrow.Author.Needs.{needs}
-use lib.ListN.{length, take, drop}
+use lib.ListN.{length}
 use Rattle.lists.specs.Chain.{chain, pass}
 use Rattle.lists.proofs.Chains.{chain-pass}
-use Rattle.lists.specs.Fold.{fold}
 use Rattle.lists.proofs.Fold.{Folding, folding-none, folding-more, folding-done}
-use Rattle.picture.specs.Plane.{layoutOf, samplesOf, turn, allTurns}
+use Rattle.picture.specs.Plane.{planeLength}
 use Rattle.picture.proofs.Plane.{samples-fit}
-use Rattle.plane.specs.Content.{contentTests}
-use Rattle.plane.specs.Decode.{recordIn, blockFrom, rebuiltFrom}
-use Rattle.plane.proofs.Files.{part-is, own-turns}
+use Rattle.macroblock.specs.Content.{contentTests}
+use Rattle.macroblock.specs.Rebuild.{rebuiltStep}
+use Rattle.plane.specs.Decode.{recordIn, rebuiltFrom}
+use Rattle.plane.proofs.Walking.{Walking, walking-none, walking-more, part-inside, part-long, part-is}
 use Rattle.plane.proofs.rebuild.rebuild_plane.Statement.{statement}
 use Rattle.plane.proofs.rebuild.rebuild_plane.Tie as tie
 
--- the turns of macroblock m
-abbrev turns : (width height : ℕ) → List ℕ → ℕ → List ℕ → List ℕ
-turns width height file m = fold 16 (turn (λ k. blockFrom (layoutOf width height) (recordIn file k) k) (layoutOf width height) m)
-
 abbrev Inv-loop : tie.InvT-loop
-Inv-loop width height file plane₀ count m₀ plane m =
-    (length plane ≡ samplesOf (layoutOf width height)) × Folding (width * height) (turns width height file) plane₀ plane m
+Inv-loop layout start file plane₀ count place₀ m₀ plane place m =
+    (length plane ≡ planeLength 16 layout) × Walking layout file start place m × Folding (layout .width * layout .height) (λ k. rebuiltStep layout k (recordIn file start k)) plane₀ plane m
 
 abbrev μ-loop : tie.MeasureT-loop
-μ-loop width height file plane₀ count m₀ plane m = count - m
+μ-loop layout start file plane₀ count place₀ m₀ plane place m = count - m
 
-small : (s : tie.Start Inv-loop μ-loop) → s .args .width * s .args .height ≤ 16384
+small : (s : tie.Start Inv-loop μ-loop) → s .args .layout .width * s .args .layout .height ≤ 16384
 small s = omega (arith, samples-fit (s .pre .0 .0))
 
 mul-count : tie.Need-mul-count Inv-loop μ-loop
-mul-count c = let f = small (c .before .before) in omega arith
+mul-count c = let f = small (c .before .before .before) in omega arith
+
+abbrev start : tie.After-struct-known Inv-loop μ-loop → tie.Start Inv-loop μ-loop
+start c = c .before .before .before
 
 loop-holds : tie.Need-loop-holds Inv-loop μ-loop
-loop-holds c = (search needs, folding-none _ _ _)
+loop-holds c = (search needs, walking-none (start c .args .layout) (start c .args .file .now) (start c .args .start), folding-none _ _ _)
 
-mul-at : tie.Need-mul-at Inv-loop μ-loop
-mul-at c = let f = small (c .before .before .before .before) in omega arith
-
-add-at : tie.Need-add-at Inv-loop μ-loop
-add-at c = let f = small (c .before .before .before .before) in omega arith
+-- what is lent lies in the file
+inside : (c : tie.After-length-from Inv-loop μ-loop) → c .before .before .loop .place + c .length-from .result ≤ length (c .before .before .before .before .before .before .args .file .now)
+inside c =
+    let L = c .before .before in
+    let s = L .before .before .before .before in
+    part-inside (s .args .layout) (s .args .file .now) (s .args .start) (s .pre .0 .1) (L .loop .m) (c .before .loop-test .taken) (L .loop .inv .1) (c .length-from .ensures)
 
 add-end : tie.Need-add-end Inv-loop μ-loop
-add-end c = let f = small (c .before .before .before .before) in omega arith
-
-sub-rebuild-macroblock : tie.Need-sub-rebuild-macroblock Inv-loop μ-loop
-sub-rebuild-macroblock c = search needs
-
-part-rebuild-macroblock-start : tie.Need-part-rebuild-macroblock-start Inv-loop μ-loop
-part-rebuild-macroblock-start c = search needs
+add-end c = let h = inside c in search needs
 
 part-rebuild-macroblock-end : tie.Need-part-rebuild-macroblock-end Inv-loop μ-loop
-part-rebuild-macroblock-end c = let r = c .before .before .before .before .pre .0 .1 .room in omega (arith, r)
+part-rebuild-macroblock-end c = inside c
 
 rebuild-macroblock-requires : tie.Need-rebuild-macroblock-requires Inv-loop μ-loop
 rebuild-macroblock-requires c κs =
-    let T = c .before .before in
+    let F = c .before .before in
+    let T = F .before in
     let L = T .before in
-    let s = L .before .before .before in
+    let s = L .before .before .before .before in
     let a = s .args in
-    let l = layoutOf (a .width) (a .height) in
-    let part = part-is l (a .file .now) (s .pre .0 .1) (L .loop .m) (T .loop-test .taken) in
-    let tested = chain-pass (λ m. contentTests l m (recordIn (a .file .now) m)) (a .width * a .height) (L .loop .m) (T .loop-test .taken) (s .pre .1) in
-    ((record { sound = s .pre .0 .0; macroblock = T .loop-test .taken; block = omega arith }, search needs, L .loop .inv .0), ap (λ (p : List ℕ). chain (contentTests l (L .loop .m) p)) part ∙ tested)
-
-add-m : tie.Need-add-m Inv-loop μ-loop
-add-m c = search needs
-
-loop-less : tie.Need-loop-less Inv-loop μ-loop
-loop-less c = search needs
+    let m = L .loop .m in
+    let part = part-is (a .layout) (a .file .now) (a .start) (s .pre .0 .1) (L .loop .m) (T .loop-test .taken) (L .loop .inv .1) (F .length-from .ensures) in
+    let long = part-long (a .layout) (a .file .now) (a .start) (s .pre .0 .1) (L .loop .m) (T .loop-test .taken) (L .loop .inv .1) (F .length-from .ensures) in
+    let tested = chain-pass (λ k. contentTests (a .layout) k (recordIn (a .file .now) (a .start) k)) (a .layout .width * a .layout .height) (L .loop .m) (T .loop-test .taken) (s .pre .1) in
+    ((record { sound = s .pre .0 .0; macroblock = T .loop-test .taken; block = omega arith }, long, L .loop .inv .0), ap (λ (p : List ℕ). chain (contentTests (a .layout) (L .loop .m) p)) part ∙ tested)
 
 loop-again : tie.Need-loop-again Inv-loop μ-loop
 loop-again c =
     let B = c .before .before in
-    let T = B .before .before .before in
+    let F = B .before .before .before in
+    let T = F .before in
     let L = T .before in
-    let s = L .before .before .before in
+    let s = L .before .before .before .before in
     let a = s .args in
-    let l = layoutOf (a .width) (a .height) in
-    let part = part-is l (a .file .now) (s .pre .0 .1) (L .loop .m) (T .loop-test .taken) in
-    let made = B .rebuild-macroblock .ensures ∙ ap (λ (p : List ℕ). fold 16 (turn (blockFrom l p) l (L .loop .m)) (L .loop .plane)) part ∙ own-turns l (a .file .now) (L .loop .m) 16 (L .loop .plane) in
-    (search needs, folding-more _ _ _ (L .loop .inv .1) (T .loop-test .taken) made)
-
-same-length : tie.Need-same-length Inv-loop μ-loop
-same-length c = search needs
+    let part = part-is (a .layout) (a .file .now) (a .start) (s .pre .0 .1) (L .loop .m) (T .loop-test .taken) (L .loop .inv .1) (F .length-from .ensures) in
+    let made = B .rebuild-macroblock .ensures ∙ ap (λ (p : List ℕ). rebuiltStep (a .layout) (L .loop .m) p (L .loop .plane)) part in
+    (search needs, walking-more (a .layout) (a .file .now) (a .start) (L .loop .m) (L .loop .inv .1) (F .length-from .ensures), folding-more _ _ _ (L .loop .inv .2) (T .loop-test .taken) made)
 
 returns : tie.Need-returns Inv-loop μ-loop
-unfolding rebuiltFrom allTurns
-returns c = folding-done _ _ _ (c .before .loop .inv .1) (c .loop-test .left)
+unfolding rebuiltFrom
+returns c = folding-done _ _ _ (c .before .loop .inv .2) (c .loop-test .left)
 
 pub rebuild-plane-spec : {M : Type 1} → statement M
 rebuild-plane-spec =
@@ -99,15 +86,14 @@ rebuild-plane-spec =
     μ-loop
     mul-count
     loop-holds
-    mul-at
-    add-at
+    (λ c κs. search needs)
     add-end
-    sub-rebuild-macroblock
-    part-rebuild-macroblock-start
+    (λ c. search needs)
+    (λ c. search needs)
     part-rebuild-macroblock-end
     rebuild-macroblock-requires
-    add-m
-    loop-less
+    (λ c. search needs)
+    (λ c. search needs)
     loop-again
-    same-length
+    (λ c. search needs)
     returns)

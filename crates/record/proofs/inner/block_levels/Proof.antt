@@ -6,7 +6,7 @@ use borrow.Author.Needs.{needs}
 use mir.Syntax.{w32}
 use mir.ValLaws.{toZ-ofZ}
 use Rattle.lists.proofs.Tab.{Filling, filling-none, filling-more, filling-done}
-use Rattle.record.specs.Records.{levelIn, blockIn}
+use Rattle.record.specs.Records.{levelIn, levelsIn}
 use Rattle.record.proofs.inner.block_levels.Statement.{statement}
 use Rattle.record.proofs.inner.block_levels.Tie as tie
 
@@ -38,7 +38,7 @@ loop-again : tie.Need-loop-again Inv-loop μ-loop
 loop-again c = filling-more 16 _ (c .before .before .loop .inv) (omega arith) (toZ-ofZ w32 _ (record { sfits = c .level .ok }) ∙ c .level .ensures)
 
 returns : tie.Need-returns Inv-loop μ-loop
-unfolding blockIn
+unfolding levelsIn
 returns c = filling-done 16 _ (c .before .loop .inv) (omega arith)
 
 pub block-levels-spec : {M : Type 1} → statement M

@@ -1,23 +1,26 @@
 -- `record::inner::seal` meets its contract: the front comes home before the levels, then the sum. Assumes nothing.
 use mathlib.Core.Path.{_≡_, ap, _∙_}
 use mathlib.Core.List.{List, _++_}
-use Prim.Native.Nat.{ℕ, _-_, _+_}
+use Prim.Native.Nat.{ℕ, _-_, _+_, _*_}
 use native.Mathlib.Omega.{arith}
 use borrow.Author.Needs.{needs}
 use borrow.Rule.Slice.PartMut.{putMid}
 use lib.ListN.{length, take, drop, length-append, length-drop}
 use lib.Seq.{take-append-add}
-use Rattle.lists.proofs.Parts.{part-home}
+use Rattle.lists.proofs.Parts.{front-home}
+use Rattle.record.specs.Kinds.{lengthOf, inFours}
 use Rattle.record.specs.Records.{summed}
 use Rattle.record.proofs.inner.seal.Statement.{statement}
 use Rattle.record.proofs.inner.seal.Tie as tie
 
 -- a front that has come home, and what stands between it and the sum
-fronted : (d v : List ℕ) → length d ≡ 527 → length v ≡ 13 → let x = putMid 0 13 d v in take (length x - 2) x ≡ v ++ take 512 (drop 13 d)
+fronted : (d v : List ℕ) → length d ≡ lengthOf inFours → length v ≡ inFours .front
+    → let x = putMid 0 (inFours .front) d v in take (length x - 2) x ≡ v ++ take (2 * inFours .levels) (drop (inFours .front) d)
 fronted d v e f =
-    let h : putMid 0 13 d v ≡ v ++ drop 13 d = part-home d v 0 13 (omega arith) f ∙ ap (λ n. v ++ drop n d) (let z : 0 + length v ≡ 13 = omega arith in z) in
-    let l : length (v ++ drop 13 d) - 2 ≡ length v + 512 = omega (arith, length-append v (drop 13 d), length-drop 13 d) in
-    ap (λ x. take (length x - 2) x) h ∙ ap (λ n. take n (v ++ drop 13 d)) l ∙ take-append-add v (drop 13 d) 512
+    let rest = drop (inFours .front) d in
+    let h : putMid 0 (inFours .front) d v ≡ v ++ rest = front-home d v (inFours .front) f ∙ ap (λ n. v ++ drop n d) f in
+    let l : length (v ++ rest) - 2 ≡ length v + 2 * inFours .levels = omega (arith, length-append v rest, length-drop (inFours .front) d) in
+    ap (λ x. take (length x - 2) x) h ∙ ap (λ n. take n (v ++ rest)) l ∙ take-append-add v rest (2 * inFours .levels)
 
 sub-write-front : tie.Need-sub-write-front
 sub-write-front c = search needs

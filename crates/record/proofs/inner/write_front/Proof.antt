@@ -7,6 +7,7 @@ use borrow.Author.Needs.{needs}
 use lib.ListN.{length, length-set}
 use Rattle.lists.specs.Tab.{tab}
 use Rattle.lists.proofs.Parts.{Growing, growing-all, growing-more, growing-done}
+use Rattle.record.specs.Kinds.{inFours}
 use Rattle.record.specs.Modes.{packed}
 use Rattle.record.specs.Records.{frontOf}
 use Rattle.record.proofs.Modes.{packed-more}
@@ -15,25 +16,31 @@ use Rattle.record.proofs.inner.write_front.Tie as tie
 
 abbrev Inv-loop : tie.InvT-loop
 Inv-loop number qp front₀ modes k₀ front k =
-    (k ≤ 8) × (length front ≡ 13) × Growing front (77 ∷ 66 ∷ number / 256 ∷ number % 256 ∷ qp ∷ packed k modes) (5 + k)
+    (k ≤ 8) × (length front ≡ inFours .front) × Growing front (77 ∷ 66 ∷ number / 256 ∷ number % 256 ∷ qp ∷ packed k modes) (5 + k)
 
 abbrev μ-loop : tie.MeasureT-loop
 μ-loop number qp front₀ modes k₀ front k = 8 - k
 
+cast-front : tie.Need-cast-front Inv-loop μ-loop
+cast-front c = search needs
+
 slice-write-front : tie.Need-slice-write-front Inv-loop μ-loop
 slice-write-front c = search needs
+
+cast-front-2 : tie.Need-cast-front-2 Inv-loop μ-loop
+cast-front-2 c = search needs
 
 slice-write-front-2 : tie.Need-slice-write-front-2 Inv-loop μ-loop
 slice-write-front-2 c = search needs
 
-cast-front : tie.Need-cast-front Inv-loop μ-loop
-cast-front c = search needs
+cast-front-3 : tie.Need-cast-front-3 Inv-loop μ-loop
+cast-front-3 c = search needs
 
 slice-write-front-3 : tie.Need-slice-write-front-3 Inv-loop μ-loop
 slice-write-front-3 c = search needs
 
-cast-front-2 : tie.Need-cast-front-2 Inv-loop μ-loop
-cast-front-2 c = search needs
+cast-front-4 : tie.Need-cast-front-4 Inv-loop μ-loop
+cast-front-4 c = search needs
 
 slice-write-front-4 : tie.Need-slice-write-front-4 Inv-loop μ-loop
 slice-write-front-4 c = search needs
@@ -44,7 +51,7 @@ slice-write-front-5 c = simp length-set (omega arith)
 loop-holds : tie.Need-loop-holds Inv-loop μ-loop
 unfolding packed tab
 loop-holds c =
-    let a = c .before .args in
+    let a = c .before .before .before .args in
     let v : List ℕ = 77 ∷ 66 ∷ a .number / 256 ∷ a .number % 256 ∷ a .qp ∷ [] in
     (omega arith, simp length-set (search needs), growing-all v (a .front .now) (omega arith))
 
@@ -64,7 +71,7 @@ array-read-pack-2 : tie.Need-array-read-pack-2 Inv-loop μ-loop
 array-read-pack-2 c = search needs
 
 pack-requires : tie.Need-pack-requires Inv-loop μ-loop
-pack-requires c κs = (c .before .before .before .pre .1 (2 * c .before .loop .k), c .before .before .before .pre .1 (2 * c .before .loop .k + 1))
+pack-requires c κs = let s = c .before .before .before .before .before in (s .pre .1 (2 * c .before .loop .k), s .pre .1 (2 * c .before .loop .k + 1))
 
 add-front : tie.Need-add-front Inv-loop μ-loop
 add-front c = search needs
@@ -85,7 +92,7 @@ loop-again c =
     let z : 5 + (k + 1) ≡ 5 + k + 1 = omega arith in (
       omega arith,
       simp length-set (omega arith),
-      rw (z, packed-more (L .before .before .args .t3) k, ← (c .pack .ensures)) (growing-more (c .pack .result) (L .loop .inv .2) (omega arith)),
+      rw (z, packed-more (L .before .before .before .before .args .t3) k, ← (c .pack .ensures)) (growing-more (c .pack .result) (L .loop .inv .2) (omega arith)),
     )
 
 same-length : tie.Need-same-length Inv-loop μ-loop
@@ -103,11 +110,13 @@ write-front-spec =
     (tie.spec
     Inv-loop
     μ-loop
-    slice-write-front
-    slice-write-front-2
     cast-front
-    slice-write-front-3
+    slice-write-front
     cast-front-2
+    slice-write-front-2
+    cast-front-3
+    slice-write-front-3
+    cast-front-4
     slice-write-front-4
     slice-write-front-5
     loop-holds

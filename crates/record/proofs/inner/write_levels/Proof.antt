@@ -14,23 +14,23 @@ use Rattle.record.proofs.inner.write_levels.Statement.{statement}
 use Rattle.record.proofs.inner.write_levels.Tie as tie
 
 abbrev Inv-loop : tie.InvT-loop
-Inv-loop out₀ levels k₀ out k = Pairing (highAt levels) (lowAt levels) 16 out k
+Inv-loop levels out₀ k₀ end₀ out k = Pairing (highAt levels) (lowAt levels) (length levels) out k
 
 abbrev μ-loop : tie.MeasureT-loop
-μ-loop out₀ levels k₀ out k = 16 - k
+μ-loop levels out₀ k₀ end₀ out k = length levels - k
 
 loop-holds : tie.Need-loop-holds Inv-loop μ-loop
-loop-holds c = pairing-none _ _ 16 (search needs)
+loop-holds c = pairing-none _ _ _ (search needs)
 
 mul-bits-of : tie.Need-mul-bits-of Inv-loop μ-loop
 mul-bits-of c = search needs
 
-array-copy-out-bits-of : tie.Need-array-copy-out-bits-of Inv-loop μ-loop
-array-copy-out-bits-of c = search needs
+shared-slice-copy-out-bits-of : tie.Need-shared-slice-copy-out-bits-of Inv-loop μ-loop
+shared-slice-copy-out-bits-of c = search needs
 
 -- a level as the call is handed it is the level
 handed : (c : tie.After-bits-of-arg Inv-loop μ-loop)
-    → let z = getD (c .before .before .before .before .args .t1) (c .before .before .loop .k) (pos 0) in toZ w32 (ofZ w32 z) ≡ z
+    → let z = getD (c .before .before .before .before .args .levels .now) (c .before .before .loop .k) (pos 0) in toZ w32 (ofZ w32 z) ≡ z
 handed c = toZ-ofZ w32 _ (record { sfits = c .bits-of-arg .given })
 
 bits-of-requires : tie.Need-bits-of-requires Inv-loop μ-loop
@@ -66,15 +66,13 @@ loop-less c = search needs
 loop-again : tie.Need-loop-again Inv-loop μ-loop
 loop-again c =
     let e = c .bits-of .ensures ∙ ap (ofZ w16) (handed (c .before)) in
-    pairing-more _ _ 16 (c .before .before .before .loop .inv) (omega arith) (ap (λ n. n / 256) e) (ap (λ n. n % 256) e)
+    pairing-more _ _ _ (c .before .before .before .loop .inv) (omega arith) (ap (λ n. n / 256) e) (ap (λ n. n % 256) e)
 
 same-length : tie.Need-same-length Inv-loop μ-loop
 same-length c = search needs
 
 returns : tie.Need-returns Inv-loop μ-loop
-returns c =
-    let l = c .before .before .before .args .t1 in
-    pairing-done _ _ 16 (c .before .loop .inv) (omega arith) ∙ (rw (let e : length l ≡ 16 = search needs in e) at (levels-by-two l))
+returns c = pairing-done _ _ _ (c .before .loop .inv) (omega arith) ∙ levels-by-two (c .before .before .before .args .levels .now)
 
 pub write-levels-spec : {M : Type 1} → statement M
 write-levels-spec =
@@ -84,7 +82,7 @@ write-levels-spec =
     μ-loop
     loop-holds
     mul-bits-of
-    array-copy-out-bits-of
+    shared-slice-copy-out-bits-of
     bits-of-requires
     cast-out
     mul-out

@@ -5,7 +5,7 @@ use Rattle.whole.specs.Bounds.{Each}
 use Rattle.whole.proofs.Lists.{each-less}
 use Rattle.transform.specs.Inverse.{inverse}
 use Rattle.transform.proofs.Bounds.{inverse-each}
-use Rattle.residual.specs.Rebuild.{added, samplesOf}
+use Rattle.residual.specs.Rebuild.{added, rebuiltSamples}
 use Rattle.residual.proofs.inner.rebuild_over.Statement.{statement}
 use Rattle.residual.proofs.inner.rebuild_over.Tie as tie
 
@@ -16,7 +16,7 @@ add-requires c κs =
     (s .pre .0, subst (Each 1000000) (sym (c .inverse-block .ensures)) (each-less 8192 1000000 (inverse d) (inverse-each d (s .pre .1)) tt))
 
 returns : tie.Need-returns
-unfolding samplesOf
+unfolding rebuiltSamples
 returns c =
     let a = c .before .before in
     let i = a .before in

@@ -2,7 +2,7 @@
 -- Assumes nothing.
 use mathlib.Core.Path.{sym, _∙_}
 use Rattle.whole.proofs.Lists.{each-less}
-use Rattle.transform.specs.Block.{flat, through, wide}
+use Rattle.transform.specs.Quads.{flat, through, wide}
 use Rattle.transform.specs.Forward.{C}
 use Rattle.transform.proofs.Sides.{Widens, Holds, across, holds, between, beyond, forward-sides}
 use Rattle.transform.proofs.Squares.{both-sides}

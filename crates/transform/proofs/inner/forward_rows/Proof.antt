@@ -1,6 +1,6 @@
 -- `transform::inner::forward_rows` meets its contract: four rows, each by `forward_row`.
 -- Assumes nothing.
-use Rattle.transform.specs.Block.{through, wide}
+use Rattle.transform.specs.Quads.{through, wide}
 use Rattle.transform.specs.Forward.{C}
 use Rattle.transform.proofs.Rows.{rows-each, rows-flat}
 use Rattle.transform.proofs.Through.{through-local}

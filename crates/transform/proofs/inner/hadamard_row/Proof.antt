@@ -7,7 +7,7 @@ use mir.Syntax.{w32}
 use mir.Val.{SFits}
 use Rattle.whole.proofs.Steps.{Code, inp, add, sub, safe, raw, ok}
 use Rattle.whole.proofs.Lists.{exacts, expressions}
-use Rattle.transform.specs.Block.{row, wide}
+use Rattle.transform.specs.Quads.{row, wide}
 use Rattle.transform.specs.Hadamard.{H4}
 use Rattle.transform.proofs.Rows.{row-through}
 use Rattle.transform.proofs.inner.hadamard_row.Statement.{statement}

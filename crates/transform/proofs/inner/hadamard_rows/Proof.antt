@@ -1,6 +1,6 @@
 -- `transform::inner::hadamard_rows` meets its contract: four rows, each by `hadamard_row`.
 -- Assumes nothing.
-use Rattle.transform.specs.Block.{through, wide}
+use Rattle.transform.specs.Quads.{through, wide}
 use Rattle.transform.specs.Hadamard.{H4}
 use Rattle.transform.proofs.Rows.{rows-each, rows-flat}
 use Rattle.transform.proofs.Through.{through-local}

@@ -2,7 +2,7 @@
 -- Assumes nothing.
 use mir.Syntax.{w32}
 use Rattle.whole.proofs.Lists.{plain}
-use Rattle.transform.specs.Block.{flat, wide}
+use Rattle.transform.specs.Quads.{flat, wide}
 use Rattle.transform.proofs.inner.in_raster.Statement.{statement}
 use Rattle.transform.proofs.inner.in_raster.Tie as tie
 

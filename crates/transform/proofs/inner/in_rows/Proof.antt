@@ -5,7 +5,7 @@ use mathlib.Core.Path.{_≡_, _∙_}
 use lib.ListN.{length}
 use mir.Syntax.{w32}
 use Rattle.whole.proofs.Lists.{plain-gather}
-use Rattle.transform.specs.Block.{wide}
+use Rattle.transform.specs.Quads.{wide}
 use Rattle.transform.proofs.Rows.{sixteen, gathered}
 use Rattle.transform.proofs.inner.in_rows.Statement.{statement}
 use Rattle.transform.proofs.inner.in_rows.Tie as tie

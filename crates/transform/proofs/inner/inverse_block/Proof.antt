@@ -11,7 +11,7 @@ use Rattle.lists.specs.Tab.{tab}
 use Rattle.lists.proofs.Stores.{Apart, striding-none, striding-more}
 use Rattle.whole.specs.Bounds.{Each}
 use Rattle.whole.proofs.Lists.{each-less}
-use Rattle.transform.specs.Block.{byRow, line, wide}
+use Rattle.transform.specs.Quads.{byRow, line, wide}
 use Rattle.transform.specs.Inverse.{back, rounded}
 use Rattle.transform.specs.Matrix.{eachColumn, raster, entries}
 use Rattle.transform.proofs.Lines.{ByRows, ByColumns, rows-done, columns-done, rows-columns, columns-each, line-within}

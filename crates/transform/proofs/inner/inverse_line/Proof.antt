@@ -15,7 +15,7 @@ use Rattle.lists.proofs.Stores.{length-stores}
 use Rattle.whole.specs.Bounds.{Within, Each}
 use Rattle.whole.proofs.Steps.{Code, add, sub, safe, raw, ok}
 use Rattle.whole.proofs.Lists.{gather, ideals, reads, raws-of, exacts}
-use Rattle.transform.specs.Block.{wide}
+use Rattle.transform.specs.Quads.{wide}
 use Rattle.transform.specs.Inverse.{back}
 use Rattle.transform.proofs.Rows.{evenSum, evenDifference, oddDifference, oddSum, inverseLine}
 use Rattle.transform.proofs.inner.inverse_line.Statement.{statement}

@@ -11,7 +11,7 @@ use mir.Syntax.{w32}
 use Rattle.lists.proofs.Stores.{Storing, storing-none, storing-more, storing-done, storing-ahead, stores-in-turn}
 use Rattle.whole.specs.Bounds.{Within, Each}
 use Rattle.whole.proofs.Steps.{Code, inp, num, add, shr, safe, exact, each-at}
-use Rattle.transform.specs.Block.{line, wide}
+use Rattle.transform.specs.Quads.{line, wide}
 use Rattle.transform.specs.Inverse.{rounded}
 use Rattle.transform.proofs.inner.round_all.Statement.{statement}
 use Rattle.transform.proofs.inner.round_all.Tie as tie

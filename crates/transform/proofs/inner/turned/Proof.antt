@@ -4,7 +4,7 @@ use mathlib.Core.List.{[], _∷_}
 use mir.Syntax.{w32}
 use Rattle.lists.specs.Tab.{tab, grid, turned}
 use Rattle.whole.proofs.Lists.{plain-gather}
-use Rattle.transform.specs.Block.{flat, wide}
+use Rattle.transform.specs.Quads.{flat, wide}
 use Rattle.transform.proofs.inner.turned.Statement.{statement}
 use Rattle.transform.proofs.inner.turned.Tie as tie
 

@@ -1,0 +1,41 @@
+-- What a macroblock of 4x4 blocks makes is a step of it, and looks only at what is present to it.
+--     rebuilt-step               by a record
+--     coded-step, record-looks   when it is coded: its step, and its record
+--     coded-bytes                a plane of bytes stays one
+-- Assumes nothing.
+use mathlib.Core.Path.{_≡_, ap}
+use mathlib.Core.List.{List}
+use Prim.Native.Nat.{ℕ, _<_, _≤_}
+use Rattle.lists.proofs.Bytes.{Bytes}
+use Rattle.quantizer.specs.Range.{highest}
+use Rattle.picture.specs.declared.Layout.{Layout}
+use Rattle.picture.specs.Order.{countOf, blockCount}
+use Rattle.picture.proofs.Bytes.{turns-bytes}
+use Rattle.picture.proofs.Start.{by-one, turns-step, turns-look}
+use Rattle.picture.proofs.Steps.{MacroblockStep, LooksFrom}
+use Rattle.macroblock.specs.Code.{modeFrom, levelsFrom, samplesFrom, seen, recordFrom, codedStep}
+use Rattle.macroblock.specs.Rebuild.{blockFrom, rebuiltStep}
+use Rattle.macroblock.proofs.CodedRecord.{makes-bytes}
+use Rattle.macroblock.proofs.RecordFrom.{same-record}
+
+module _ (l : Layout) (some : 0 < l .width) (m : ℕ) (among : m < countOf l) where
+  pub rebuilt-step : (part : List ℕ) → MacroblockStep 16 l m (rebuiltStep l m part)
+  unfolding rebuiltStep
+  rebuilt-step part = turns-step 4 tt (blockFrom l part) l some m among
+
+  module _ (qp : ℕ) (original : List ℕ) where
+    pub coded-step : MacroblockStep 16 l m (codedStep l qp original m)
+    unfolding codedStep
+    coded-step = turns-step 4 tt (samplesFrom l qp original) l some m among
+
+    seen-looks : (b : ℕ) → b < 16 → LooksFrom 16 l m (λ p. seen l qp original m p b)
+    unfolding seen blockCount
+    seen-looks b h = turns-look 4 tt (samplesFrom l qp original) l some m among b b (by-one b) h
+
+    pub record-looks : LooksFrom 16 l m (recordFrom l qp original m)
+    record-looks p q a =
+        same-record l qp m original original p q (λ b h. ap (modeFrom l original m b) (seen-looks b h p q a)) (λ b h. ap (levelsFrom l qp original m b) (seen-looks b h p q a))
+
+pub coded-bytes : (l : Layout) (qp : ℕ) → qp ≤ highest → (original : List ℕ) → Bytes original → (m : ℕ) (before : List ℕ) → Bytes before → Bytes (codedStep l qp original m before)
+unfolding codedStep blockCount
+coded-bytes l qp legal original bytes m before small = turns-bytes 4 (samplesFrom l qp original) (makes-bytes l qp legal original bytes) l m 16 before small

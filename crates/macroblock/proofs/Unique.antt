@@ -1,0 +1,26 @@
+-- The contracts of `macroblock` determine what its functions answer, and what they leave in file and plane. Assumes nothing.
+use mathlib.Core.Path.{refl, sym, _∙_}
+use mathlib.Core.List.{List}
+use Prim.Native.Nat.{ℕ}
+use denote.Ref.{now}
+use Rattle.unique.specs.Unique.{Unique}
+use Rattle.refusal.proofs.Same.{same-answer}
+use Rattle.macroblock.proofs.inner.test_macroblock.Kinds as test-macroblock
+use Rattle.macroblock.proofs.inner.test_macroblock.Reads as test-macroblock-reads
+use Rattle.macroblock.proofs.inner.rebuild_macroblock.Kinds as rebuild-macroblock
+use Rattle.macroblock.proofs.inner.rebuild_macroblock.Reads as rebuild-macroblock-reads
+use Rattle.macroblock.proofs.inner.code_macroblock.Kinds as code-macroblock
+use Rattle.macroblock.proofs.inner.code_macroblock.Reads as code-macroblock-reads
+
+pub test-macroblock-unique : Unique 1 test-macroblock.ps test-macroblock.r test-macroblock-reads.Learnt (Unit {0}) (λ κs e. tt)
+test-macroblock-unique κs a x y e f p q = (same-answer x y (p ∙ sym q), refl)
+
+pub rebuild-macroblock-unique : Unique 2 rebuild-macroblock.ps rebuild-macroblock.r rebuild-macroblock-reads.Learnt (List ℕ) (λ κs e. now (e .1 .1 .1 .0))
+rebuild-macroblock-unique κs a x y e f p q = (refl, p ∙ sym q)
+
+-- what was lent of the file and the rebuilt plane, at exit
+pub code-macroblock-unique : Unique 3 code-macroblock.ps code-macroblock.r code-macroblock-reads.Learnt (List ℕ × List ℕ) (λ κs e. (now (e .1 .1 .1 .1 .0), now (e .1 .1 .1 .1 .1 .0)))
+code-macroblock-unique κs a x y e f p q =
+    let file = p .1 .0 ∙ sym (q .1 .0) in
+    let plane = p .1 .1 ∙ sym (q .1 .1) in
+    (p .0 ∙ sym (q .0), λ i. (file i, plane i))
