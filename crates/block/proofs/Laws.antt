@@ -8,11 +8,10 @@ use mathlib.Core.Bool.{true}
 use mathlib.Core.List.{List}
 use Prim.Native.Nat.{ℕ, _<_, _≤_}
 use native.Mathlib.Omega.{arith}
-use lib.IntN.{ℤ, pos}
+use lib.IntN.{ℤ}
 use lib.ListN.{length, getD}
-use mir.Syntax.{w16}
-use mir.Val.{SFits}
-use Rattle.lists.proofs.Bytes.{Bytes, bytes-tab}
+use Rattle.lists.specs.Bytes.{Bytes}
+use Rattle.lists.proofs.Bytes.{bytes-tab}
 use Rattle.whole.specs.Bounds.{Each}
 use Rattle.whole.specs.Clip.{clip}
 use Rattle.whole.proofs.Bound.{here, fits, bytes-differ}
@@ -25,12 +24,11 @@ use Rattle.predict.specs.Rules as rules
 use Rattle.predict.specs.Choice.{Best, chosen}
 use Rattle.predict.specs.Entry.{bestSamples}
 use Rattle.predict.proofs.Bytes.{best-bytes, chosen-mode}
-use Rattle.residual.specs.Entry.{firstWide}
-use Rattle.residual.specs.Order.{inZigzag}
 use Rattle.residual.specs.Rebuild.{added, rebuiltSamples, rescaledOf}
 use Rattle.residual.proofs.Order.{length-zigzag}
 use Rattle.residual.proofs.Own.{own-levels-in-range, own-numbers-fit}
-use Rattle.block.specs.Block.{residualOf, modeOf, codedMode, predictionOf, codedLevels, codedSamples}
+use Rattle.block.specs.Block.{residualOf, modeOf, codedMode, predictionOf, codedLevels}
+use Rattle.block.specs.Laws.{BlockLaws}
 use Rattle.block.proofs.Carried.{length-samples}
 
 pub residual-small : (samples prediction : List ℕ) → Bytes samples → Bytes prediction → Each 255 (residualOf samples prediction)
@@ -49,19 +47,6 @@ clip-byte z = omega (arith, clip-le 255 z)
 pub bytes-samples : (prediction : List ℕ) (d : List ℤ) → Bytes (rebuiltSamples prediction d)
 unfolding rebuiltSamples added
 bytes-samples prediction d = bytes-tab 16 _ (λ place l. clip-byte _)
-
-pub record BlockLaws (qp : ℕ) (n : List ℕ) (f : ℕ) (s : List ℕ) : Type 0 where
-  -- the mode is one of the nine, and the flags permit it
-  pub mode-small : codedMode (mask n f) s < 9
-  pub permitted : rules.permitted f (codedMode (mask n f) s) ≡ true
-  -- sixteen levels, each in 16 bits, that rescale into 16 bits
-  pub sixteen : length (codedLevels qp (mask n f) s) ≡ 16
-  pub fits : (k : ℕ) → SFits w16 (getD (codedLevels qp (mask n f) s) k (pos 0))
-  pub in-range : firstWide (inZigzag (rescaledOf qp (codedLevels qp (mask n f) s))) ≡ 16
-  -- what is rebuilt is what the mode's prediction and the levels give: sixteen bytes
-  pub rebuilds : codedSamples qp (mask n f) s ≡ rebuiltSamples (rules.samplesOf (rules.predicted (mask n f) (codedMode (mask n f) s))) (rescaledOf qp (codedLevels qp (mask n f) s))
-  pub made-sixteen : length (codedSamples qp (mask n f) s) ≡ 16
-  pub made-bytes : Bytes (codedSamples qp (mask n f) s)
 
 pub block-laws : (qp : ℕ) (n : List ℕ) (f : ℕ) (s : List ℕ) → qp ≤ highest → length n ≡ 13 → Bytes n → Bytes s → BlockLaws qp n f s
 block-laws qp n f s legal long near own =

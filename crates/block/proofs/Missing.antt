@@ -10,14 +10,14 @@ use borrow.Author.Tests.{eqb-true, leb-true}
 use lib.IntN.{ℤ}
 use lib.ListN.{length}
 use Rattle.lists.specs.Chain.{pass, chain}
-use Rattle.lists.proofs.Bytes.{Bytes}
+use Rattle.lists.specs.Bytes.{Bytes}
 use Rattle.lists.proofs.Chain.{chain-exactly-if}
 use Rattle.refusal.proofs.Same.{says-same, says}
 use Rattle.refusal.specs.declared.Answer.the-variants.{Done}
 use Rattle.quantizer.specs.Range.{highest}
-use Rattle.predict.specs.Samples.{mask}
+use Rattle.predict.specs.Samples.{mask, AgreeWherePresent}
 use Rattle.predict.proofs.Bytes.{chosen-sixteen}
-use Rattle.predict.proofs.Missing.{AgreeWherePresent, same-mask}
+use Rattle.predict.proofs.Missing.{same-mask}
 use Rattle.predict.specs.Rules as rules
 use Rattle.predict.specs.Choice.{at, chosen}
 use Rattle.predict.specs.Entry.{bestSamples}

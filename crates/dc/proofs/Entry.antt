@@ -16,8 +16,8 @@ use borrow.Author.Tests.{eq-eqb, ne-eqb, le-leb, eqb-true, leb-true}
 use lib.Dec.{eqb}
 use lib.IntN.{ℤ, pos, negsuc}
 use lib.ListN.{length}
-use Rattle.lists.specs.Chain.{Test, test, chain, pass, stop}
-use Rattle.lists.proofs.Chain.{ExactlyIf, chain-exactly-if, chain-passed, chain-refused, holds-new}
+use Rattle.lists.specs.Chain.{Test, test, chain, pass, stop, ExactlyIf}
+use Rattle.lists.proofs.Chain.{chain-exactly-if, chain-passed, chain-refused, holds-new}
 use Rattle.whole.specs.Bounds.{Each}
 use Rattle.whole.specs.Range.{firstOutside}
 use Rattle.whole.proofs.Range.{outside-le, none-each}
@@ -33,22 +33,7 @@ use Rattle.quantizer.specs.declared.Built.{Built}
 use Rattle.quantizer.specs.declared.Built.the-variants.{Legal, Refused}
 use Rattle.quantizer.specs.declared.Quantizer.{Quantizer}
 use Rattle.residual.specs.Entry.{firstWide}
-use Rattle.dc.specs.Entry.{
-  lentTests,
-  Accepts,
-  firstLarge,
-  residualTest,
-  levelTest,
-  dcLevelsTests,
-  lumaLevelsTests,
-  LumaLevels,
-  lumaValuesTests,
-  LumaValues,
-  chromaLevelsTests,
-  ChromaLevels,
-  chromaValuesTests,
-  ChromaValues,
-}
+use Rattle.dc.specs.Entry.{lentTests, Accepts, firstLarge, residualTest, levelTest, dcLevelsTests, lumaLevelsTests, LumaLevels, lumaValuesTests, LumaValues, chromaLevelsTests, ChromaLevels, chromaValuesTests, ChromaValues}
 
 -- ---- LENGTH and QUANTIZER
 

@@ -23,7 +23,7 @@ use Rattle.whole.proofs.Laws.{*ℤ-assoc, shr-one}
 use Rattle.whole.proofs.Steps.{each-at}
 use Rattle.transform.specs.Hadamard.{H4, H2, hadamard}
 use Rattle.transform.proofs.Bounds.{hadamard4-each, hadamard2-each}
-use Rattle.quantizer.specs.Range.{periodOf, remainderOf}
+use Rattle.quantizer.specs.Range.{remainderOf}
 use Rattle.quantizer.specs.declared.Class.the-variants.{A}
 use Rattle.quantizer.proofs.Tables.{v-small}
 use Rattle.residual.specs.Rescale.{scaledBy}

@@ -3,8 +3,9 @@ use mathlib.Core.List.{List}
 use Prim.Native.Nat.{ℕ, _^_}
 use lib.IntN.{ℤ, pos, _*ℤ_}
 use lib.ListN.{getD}
-use lib.Signed.{shrZ}
 use Rattle.lists.specs.Tab.{tab}
+use Rattle.whole.specs.Notation.{_>>_}
+use Rattle.transform.specs.Forward.{forward}
 use Rattle.transform.specs.Hadamard.{H4, H2, hadamard}
 use Rattle.quantizer.specs.Range.{periodOf, remainderOf}
 use Rattle.quantizer.specs.Tables.{mfOf, vOf}
@@ -19,6 +20,10 @@ mfA qp = mfOf (remainderOf qp) A
 
 abbrev pub vA : ℕ → ℕ
 vA qp = vOf (remainderOf qp) A
+
+-- the DC coefficients of n blocks of residuals: coefficient 0 of each
+abbrev pub dcOf : ℕ → (ℕ → List ℤ) → List ℤ
+dcOf n blocks = tab n (λ k. getD (forward (blocks k)) 0 (pos 0))
 
 -- the levels of n numbers T by the one quantizing rule: s = 2, "(|T|*MFa+4f)/2^(q+2)"; s = 1, "(|T|*MFa+2f)/2^(q+1)"
 unfoldable pub quantizedDc : ℕ → ℕ → ℕ → List ℤ → List ℤ
@@ -45,7 +50,7 @@ chromaLevels qp dc = quantizedDc 4 1 qp (hadamard 2 H2 dc)
 
 -- "back (g*Va*2^p)>>1"
 unfoldable pub chromaScaled : ℕ → List ℤ → List ℤ
-chromaScaled qp g = tab 4 (λ k. shrZ (getD g k (pos 0) *ℤ pos (vA qp) *ℤ pos (2 ^ periodOf qp)) 2)
+chromaScaled qp g = tab 4 (λ k. (getD g k (pos 0) *ℤ pos (vA qp) *ℤ pos (2 ^ periodOf qp)) >> 1)
 
 unfoldable pub chromaValues : ℕ → List ℤ → List ℤ
 chromaValues qp levels = chromaScaled qp (hadamard 2 H2 levels)

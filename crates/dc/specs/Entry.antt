@@ -4,13 +4,14 @@ use mathlib.Core.Path.{_≡_}
 use mathlib.Core.List.{List, [], _∷_, _++_}
 use Prim.Native.Nat.{ℕ}
 use lib.Dec.{eqb}
-use lib.IntN.{ℤ, pos, negsuc}
+use lib.IntN.{ℤ, pos}
 use lib.ListN.{length}
 use Rattle.lists.specs.Chain.{Test, test, chain, written}
 use Rattle.refusal.specs.Number.{said, Says}
 use Rattle.refusal.specs.declared.Answer.{Answer}
 use Rattle.refusal.specs.declared.Refusal.{Refusal}
 use Rattle.refusal.specs.declared.Refusal.the-variants as refusal
+use Rattle.whole.specs.Notation.{minus}
 use Rattle.whole.specs.Range.{firstOutside}
 use Rattle.quantizer.specs.Range as built
 use Rattle.quantizer.specs.declared.Built.{Built}
@@ -31,7 +32,7 @@ pub record Accepts (n qp given room : ℕ) (b : Built) : Type 0 where
 
 -- RESIDUAL: "DC coefficient outside -4080..4080", "first index"
 abbrev pub firstLarge : List ℤ → ℕ
-firstLarge dc = firstOutside (negsuc 4079) (pos 4080) dc
+firstLarge dc = firstOutside (minus 4080) (pos 4080) dc
 
 abbrev pub residualTest : ℕ → List ℤ → Test Refusal
 residualTest n dc = test (eqb (firstLarge dc) n) (refusal.Residual (firstLarge dc))

@@ -1,2 +1,3 @@
 pub mod Dc
 pub mod Entry
+pub mod Path

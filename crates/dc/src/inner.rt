@@ -13,7 +13,7 @@ use quantizer::Class;
 use quantizer::Quantizer;
 
 // The levels of sixteen luma DC values, in zigzag order.
-pub fn luma_levels(quantizer: Quantizer, dc: [i32; 16]) -> [i32; 16]
+pub(crate) fn luma_levels(quantizer: Quantizer, dc: [i32; 16]) -> [i32; 16]
     requires { ⌜ (quantizer .qp ≤ highest) × (Each 4080 dc) ⌝ }
     ensures { λ r. ⌜ r ≡ lumaLevels (quantizer .qp) dc ⌝ }
 {
@@ -38,7 +38,7 @@ fn levels_of_four(t: [i32; 4], mf: u32, f: u32, q: u32) -> [i32; 4]
 }
 
 // The levels of four chroma DC values, in raster order.
-pub fn chroma_levels(quantizer: Quantizer, dc: [i32; 4]) -> [i32; 4]
+pub(crate) fn chroma_levels(quantizer: Quantizer, dc: [i32; 4]) -> [i32; 4]
     requires { ⌜ (quantizer .qp ≤ highest) × (Each 4080 dc) ⌝ }
     ensures { λ r. ⌜ r ≡ chromaLevels (quantizer .qp) dc ⌝ }
 {
@@ -84,7 +84,7 @@ fn luma_scaled(quantizer: Quantizer, g: [i32; 16]) -> [i32; 16]
 {
     let mut values = g;
     let period = quantizer.period();
-    let scale = residual::inner::scale(quantizer, Class::A, above_two(period));
+    let scale = residual::inner::scale(quantizer, Class::A, above_two(period)) as i32;
     match period {
         0 => scale_all(&mut values, scale, 2, 2),
         1 => scale_all(&mut values, scale, 1, 1),
@@ -94,7 +94,7 @@ fn luma_scaled(quantizer: Quantizer, g: [i32; 16]) -> [i32; 16]
 }
 
 // The luma DC values of sixteen levels in zigzag order, in raster order.
-pub fn luma_values(quantizer: Quantizer, levels: [i32; 16]) -> [i32; 16]
+pub(crate) fn luma_values(quantizer: Quantizer, levels: [i32; 16]) -> [i32; 16]
     requires { ⌜ (quantizer .qp ≤ highest) × (Each 32768 levels) ⌝ }
     ensures { λ r. ⌜ r ≡ lumaValues (quantizer .qp) levels ⌝ }
 {
@@ -103,12 +103,12 @@ pub fn luma_values(quantizer: Quantizer, levels: [i32; 16]) -> [i32; 16]
 }
 
 // The chroma DC values of four levels, both in raster order.
-pub fn chroma_values(quantizer: Quantizer, levels: [i32; 4]) -> [i32; 4]
+pub(crate) fn chroma_values(quantizer: Quantizer, levels: [i32; 4]) -> [i32; 4]
     requires { ⌜ (quantizer .qp ≤ highest) × (Each 32768 levels) ⌝ }
     ensures { λ r. ⌜ r ≡ chromaValues (quantizer .qp) levels ⌝ }
 {
     let mut values = transform::inner::hadamard2(levels);
-    let scale = residual::inner::scale(quantizer, Class::A, quantizer.period());
+    let scale = residual::inner::scale(quantizer, Class::A, quantizer.period()) as i32;
     scale_all(&mut values, scale, 0, 1);
     values
 }

@@ -12,7 +12,7 @@ use native.Mathlib.Omega.{arith}
 use lib.IntN.{ℤ, pos, natAbs, _+ℤ_, _-ℤ_, _*ℤ_}
 use lib.ListN.{getD}
 use Rattle.lists.specs.Chain.{Verdict, pass, written}
-use Rattle.lists.proofs.Bytes.{Bytes}
+use Rattle.lists.specs.Bytes.{Bytes}
 use Rattle.lists.proofs.Chain.{holds-new}
 use Rattle.lists.proofs.Tab.{getD-tab}
 use Rattle.whole.specs.Bounds.{Within, Each}

@@ -8,7 +8,7 @@ use Prim.Native.Nat.{ℕ, _*_, _^_, _<_, _≤_}
 use native.Mathlib.Nat.{mul-le-mul}
 use lib.Dec.{leb, leb→le}
 use lib.Pow.{pow-mono}
-use Rattle.lists.proofs.Chain.{ExactlyIf}
+use Rattle.lists.specs.Chain.{ExactlyIf}
 use Rattle.lists.proofs.Every.{every-at}
 use Rattle.refusal.proofs.Same.{says-exactly-if}
 use Rattle.quantizer.specs.Range.{tests}

@@ -17,7 +17,7 @@ use borrow.Fn.Kinds.{Dens, resT, endedOf}
 use lib.IntN.{ℤ, pos}
 use lib.ListN.{getD}
 use Rattle.lists.specs.Chain.{pass, chain}
-use Rattle.lists.proofs.Bytes.{Bytes}
+use Rattle.lists.specs.Bytes.{Bytes}
 use Rattle.lists.proofs.Chain.{holds-new}
 use Rattle.refusal.specs.Number as answer
 use Rattle.refusal.proofs.Same.{says-same}

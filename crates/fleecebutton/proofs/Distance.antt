@@ -17,7 +17,7 @@ use borrow.Fn.Kinds.{Dens, resT, endedOf}
 use lib.IntN.{pos}
 use lib.ListN.{getD}
 use Rattle.lists.specs.Chain.{Test, Verdict, pass, chain}
-use Rattle.lists.proofs.Bytes.{Bytes}
+use Rattle.lists.specs.Bytes.{Bytes}
 use Rattle.lists.proofs.Chain.{chain-exactly-if}
 use Rattle.refusal.specs.declared.Refusal.{Refusal}
 use Rattle.quantizer.specs.Range.{highest, tests}

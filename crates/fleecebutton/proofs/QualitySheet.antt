@@ -13,9 +13,9 @@ use denote.Triple.Clauses.{AtExit}
 use borrow.Fn.Kinds.{Dens, resT, endedOf}
 use lib.Ieee.{Float}
 use lib.ListN.{getD}
-use Rattle.lists.specs.Chain.{Verdict, pass, chain, written}
-use Rattle.lists.proofs.Bytes.{Bytes}
-use Rattle.lists.proofs.Chain.{AllPass, chain-exactly-if}
+use Rattle.lists.specs.Chain.{Verdict, pass, chain, written, AllPass}
+use Rattle.lists.specs.Bytes.{Bytes}
+use Rattle.lists.proofs.Chain.{chain-exactly-if}
 use Rattle.refusal.specs.declared.Refusal.{Refusal}
 use Rattle.picture.specs.Plane.{layoutOf}
 use Rattle.picture.proofs.Plane.{samples-fit}

@@ -3,6 +3,7 @@
 --     place-told      above it a refusal has its place, up to 2^56
 --     value-told      above it a success has its value
 --     done-exactly-if, refused-word     the low byte is 0 exactly if all tests pass; the word of the first test that fails
+--     RefusedBy, word-refused           and back: a word whose low byte is not 0 has number and place of the first test that fails
 --     passed-word                       a word whose low byte is 0: the tests passed
 --     seven-unsent                      no word has the number 7
 -- Assumes nothing.
@@ -11,8 +12,8 @@ use mathlib.Core.List.{List}
 use mathlib.Core.Logic.{_↔_}
 use Prim.Native.Nat.{ℕ, _+_, _*_, _/_, _%_, _<_}
 use native.Mathlib.Omega.{arith}
-use Rattle.lists.specs.Chain.{Test, Verdict, pass, stop, chain}
-use Rattle.lists.proofs.Chain.{AllPass, RefusedWith, chain-exactly-if}
+use Rattle.lists.specs.Chain.{Test, Verdict, pass, stop, chain, AllPass, RefusedWith}
+use Rattle.lists.proofs.Chain.{chain-exactly-if}
 use Rattle.refusal.specs.Number.{number, numberOf, placeOf}
 use Rattle.refusal.specs.declared.Refusal.{Refusal}
 use Rattle.refusal.specs.declared.Refusal.the-variants.{Length, Size, Flags, Quantizer, Mode, Residual, Level, Range, Form}
@@ -54,6 +55,25 @@ done-exactly-if ts value = (
 
 pub refused-word : (ts : List (Test Refusal)) (value : ℕ) (r : Refusal) → RefusedWith ts r → wordOf (chain ts) value ≡ numberOf r + 256 * (placeOf r % places)
 refused-word ts value r h = ap (λ (v : Verdict Refusal). wordOf v value) (chain-exactly-if ts .refuses r .1 h)
+
+-- and back: a word whose low byte is not 0 tells of the first test that fails
+pub record RefusedBy (ts : List (Test Refusal)) (w : ℕ) : Type 0 where
+  pub refusal : Refusal
+  pub is : RefusedWith ts refusal
+  pub number : w % 256 ≡ numberOf refusal
+  pub place : w / 256 ≡ placeOf refusal % places
+
+pub word-refused : (ts : List (Test Refusal)) (value : ℕ) → (wordOf (chain ts) value % 256 ≡ 0 → ⊥) → RefusedBy ts (wordOf (chain ts) value)
+word-refused ts value bad = by (chain ts) refl
+  where
+    by : (v : Verdict Refusal) → chain ts ≡ v → RefusedBy ts (wordOf (chain ts) value)
+    by pass e = absurd (bad (ap (λ (v : Verdict Refusal). wordOf v value % 256) e ∙ number-told pass value))
+    by (stop r) e = record {
+      refusal = r;
+      is = chain-exactly-if ts .refuses r .0 e;
+      number = ap (λ (v : Verdict Refusal). wordOf v value % 256) e ∙ number-told (stop r) value;
+      place = ap (λ (v : Verdict Refusal). wordOf v value / 256) e ∙ place-told r value;
+    }
 
 pub passed-word : (ts : List (Test Refusal)) (value : ℕ) {w : ℕ} → w ≡ wordOf (chain ts) value → w % 256 ≡ 0 → chain ts ≡ pass
 passed-word ts value is d = done (chain ts) value (ap (λ (u : ℕ). u % 256) (sym is) ∙ d)

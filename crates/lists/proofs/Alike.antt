@@ -2,24 +2,22 @@
 -- follows from the places that it sees: from nothing that stood in its own places. Such steps compose, so what holds of one turn holds of
 -- a loop of turns, and of a loop of loops.
 --     Agree, Looks          two lists agree where a step sees; what is made of a list looks only there
---     Step: step-sees, step-by, step-same     seeing more; by other numbers; an equal step
+--     Step: step-sees, step-by     seeing more; by other numbers
 --     step-agree, step-then, step-fold        lists that agreed do so after the step, also in its places; one step behind another; a loop
 --     step-choice           a choice between two steps, by a test that looks only at what both see
 --     start-forgotten       steps that see nothing at the start, and write every place, end alike from any two lists of the size
 -- Assumes nothing.
-use mathlib.Core.Path.{_≡_, refl, sym, ap, subst, _∙_}
+use mathlib.Core.Path.{_≡_, refl, sym, _∙_}
 use mathlib.Core.Bool.{Bool, true, false, cond}
 use mathlib.Core.List.{List}
-use mathlib.Core.Logic.{_⊎_, inl, inr, ⊎-elim}
+use mathlib.Core.Logic.{_⊎_, inl, inr}
 use Prim.Native.Nat.{ℕ, zero, suc, _<_, _≤_}
-use native.Mathlib.Nat.{eq-or-lt-of-le, le-of-suc-le-suc, not-suc-le-zero}
 use native.Mathlib.Omega.{arith}
 use borrow.Author.Tests.{ltb-true, ltb-false}
 use lib.Dec.{ltb}
 use lib.ListN.{length, getD}
 use lib.Seq.{ext-getD}
 use Rattle.lists.specs.Fold.{fold}
-use Rattle.lists.proofs.Fold.{fold-along}
 
 -- `number i` is the number of place i: the places from number lo on, before number hi
 abbrev pub Between : (number : ℕ → ℕ) (lo hi i : ℕ) → Type 0
@@ -55,13 +53,6 @@ module _ {A : Type 0} (z : A) (size : ℕ) where
       long = s .long;
       off = s .off;
       on = λ p q a i h b. s .on p q (agree-less more sees w p q a) i h b;
-    }
-
-    pub step-same : {sees : ℕ → Type 0} {lo hi : ℕ} {f : List A → List A} (g : List A → List A) → ((p : List A) → g p ≡ f p) → Step sees lo hi f → Step sees lo hi g
-    step-same g e s = record {
-      long = λ p. rw (e p) (s .long p);
-      off = λ p i h b. rw (e p) (s .off p i h b);
-      on = λ p q a i h b. rw (e p, e q) (s .on p q a i h b);
     }
 
     -- a place is the step's own, or it is not

@@ -1,5 +1,4 @@
 -- Lists of bytes, by place: past the end `getD` gives 0, which is a byte, so no length is asked.
---     Bytes                                                         each element is below 256
 --     bytes-known                                                   what a slice of u8 is known to hold
 --     bytes-none, bytes-cons, bytes-tail                            by the list's two shapes
 --     bytes-append, bytes-take, bytes-drop, bytes-replicate         parts of bytes, and what is put together of bytes
@@ -14,12 +13,9 @@ use lib.ListN.{getD, take, drop, set, replicate}
 use lib.Seq.{getD-drop}
 use mir.Syntax.{w8}
 use mir.Val.{Fits}
+use Rattle.lists.specs.Bytes.{Bytes}
 use Rattle.lists.specs.Stores.{stores}
 use Rattle.lists.specs.Tab.{tab, grid, inRaster}
-
--- a record, so that the list can be inferred from a hypothesis
-pub record Bytes (l : List ℕ) : Type 0 where
-  pub byte : (k : ℕ) → getD l k 0 < 256
 
 -- as `c .shared-slice-known .given` says it of a slice
 pub bytes-known : (l : List ℕ) → ((k : ℕ) → Fits w8 (getD l k 0)) → Bytes l

@@ -1,27 +1,17 @@
 -- The law of a chain of tests: refused exactly if a test fails and all before it pass, passed exactly if all pass.
---     AllPass, RefusedWith, ExactlyIf, chain-exactly-if
+--     chain-exactly-if
 --     chain-passed, chain-refused     a chain behind a chain
 --     written-passed, written-refused, holds-new     what an output holds at exit, by the verdict
 -- Assumes nothing.
 use mathlib.Core.Path.{_≡_, refl, sym, ap, _∙_}
 use mathlib.Core.Bool.{Bool, true, false, cond}
-use mathlib.Core.Logic.{_⊎_, inl, inr, _↔_}
+use mathlib.Core.Logic.{inl, inr}
 use mathlib.Core.List.{List, [], _∷_, _++_}
 use Prim.Native.Nat.{ℕ}
 use native.Mathlib.Omega.{arith}
-use Rattle.lists.specs.Chain.{Test, Verdict, pass, stop, chain, written}
+use Rattle.lists.specs.Chain.{Test, Verdict, pass, stop, chain, written, AllPass, RefusedWith, ExactlyIf}
 
 module _ {R : Type 0} where
-  -- every test passes
-  abbrev pub AllPass : List (Test R) → Type 0
-  AllPass [] = Unit {0}
-  AllPass (t ∷ ts) = (t .passes ≡ true) × AllPass ts
-
-  -- some test fails, all before it pass, and r is its refusal
-  abbrev pub RefusedWith : List (Test R) → R → Type 0
-  RefusedWith [] r = ⊥
-  RefusedWith (t ∷ ts) r = ((t .passes ≡ false) × (r ≡ t .refusal)) ⊎ ((t .passes ≡ true) × RefusedWith ts r)
-
   pub pass-not-stop : {r : R} → pass ≡ stop r → ⊥
   pass-not-stop e = let z : _≡_ {A = ℕ} 0 1 = cc in omega arith
 
@@ -66,11 +56,6 @@ module _ {R : Type 0} where
       by : (chain ts ≡ stop r → chain (ts ++ us) ≡ stop r) → RefusedWith (t ∷ ts) r → chain (t ∷ (ts ++ us)) ≡ stop r
       by rest (inl h) = rw (h .0, h .1)
       by rest (inr h) = rw (h .0) (rest (refused-if ts r (h .1)))
-
-  -- both halves, of a chain
-  pub record ExactlyIf (ts : List (Test R)) (v : Verdict R) : Type 0 where
-    pub passes : (v ≡ pass) ↔ AllPass ts
-    pub refuses : (r : R) → (v ≡ stop r) ↔ RefusedWith ts r
 
   pub chain-exactly-if : (ts : List (Test R)) → ExactlyIf ts (chain ts)
   chain-exactly-if ts = record {

@@ -1,13 +1,11 @@
 -- Laws of a loop over a state.
 --     fold-more, fold-keeps, fold-follow             one more turn; what each turn keeps; a loop that does what another does along its way
---     fold-along, fold-flat                          what two loops keep between them; a loop of loops is one loop
 --     Folding: folding-none, folding-more, folding-done
 -- Assumes nothing.
 use mathlib.Core.Path.{_≡_, refl, sym, ap, _∙_}
-use Prim.Native.Nat.{ℕ, zero, suc, _+_, _*_, _/_, _%_, _<_, _≤_, zero-le}
+use Prim.Native.Nat.{ℕ, zero, suc, _+_, _<_, _≤_, zero-le}
 use native.Mathlib.Numerals.{add-one}
 use native.Mathlib.Omega.{arith}
-use lib.Arith.{digits-div, digits-mod}
 use Rattle.lists.specs.Fold.{fold}
 
 module _ {A : Type 0} where
@@ -30,24 +28,6 @@ module _ {A : Type 0} where
 
   -- ---- loops in a loop
 
-  -- j more turns after k times c
-  fold-on : (c : ℕ) (f : ℕ → ℕ → A → A) (k : ℕ) (a : A) (j : ℕ) → j ≤ c
-      → fold (k * c + j) (λ i. f (i / c) (i % c)) a ≡ fold j (f k) (fold (k * c) (λ i. f (i / c) (i % c)) a)
-  unfolding fold
-  fold-on c f k a zero h = ap (λ (n : ℕ). fold n (λ i. f (i / c) (i % c)) a) (let z : k * c + zero ≡ k * c = omega arith in z)
-  fold-on c f k a (suc j) h =
-      ap (λ (n : ℕ). fold n (λ i. f (i / c) (i % c)) a) (let z : k * c + suc j ≡ suc (k * c + j) = omega arith in z)
-      ∙ rw (digits-div k {m = c} {r = j} (omega arith), digits-mod k {m = c} {r = j} (omega arith)) (ap (f k j) (fold-on c f k a j (omega arith)))
-
-  -- a loop of n loops of c turns each
-  pub fold-flat : (n c : ℕ) (f : ℕ → ℕ → A → A) (a : A) → fold n (λ k. fold c (f k)) a ≡ fold (n * c) (λ i. f (i / c) (i % c)) a
-  unfolding fold
-  fold-flat zero c f a = ap (λ (n : ℕ). fold n (λ i. f (i / c) (i % c)) a) (let z : zero ≡ zero * c = omega arith in z)
-  fold-flat (suc n) c f a =
-      ap (fold c (f n)) (fold-flat n c f a)
-      ∙ sym (fold-on c f n a c (omega arith))
-      ∙ ap (λ (n : ℕ). fold n (λ i. f (i / c) (i % c)) a) (let z : n * c + c ≡ (n + 1) * c = omega arith in z ∙ ap (λ (i : ℕ). i * c) (add-one n))
-
   -- ---- a loop over k that takes the state s to f k s
 
   pub record Folding (n : ℕ) (f : ℕ → A → A) (a s : A) (k : ℕ) : Type 0 where
@@ -64,14 +44,3 @@ module _ {A : Type 0} where
 
     pub folding-done : {s : A} {k : ℕ} → Folding n f a s k → n ≤ k → s ≡ fold n f a
     folding-done {s} {k} h l = let q : k ≡ n = omega (arith, h .below) in h .is ∙ rw q
-
--- ---- two loops side by side
-
-module _ {A B : Type 0} where
-  -- what holds between the starts, and after turn k if before it, holds between the ends
-  pub fold-along : (R : ℕ → A → B → Type 0) (n : ℕ) (f : ℕ → A → A) (g : ℕ → B → B) (a : A) (b : B) → R 0 a b
-      → ((k : ℕ) → k < n → R k (fold k f a) (fold k g b) → R (suc k) (f k (fold k f a)) (g k (fold k g b)))
-      → R n (fold n f a) (fold n g b)
-  unfolding fold
-  fold-along R zero f g a b r h = r
-  fold-along R (suc n) f g a b r h = h n (omega arith) (fold-along R n f g a b r (λ k l. h k (omega arith)))

@@ -11,7 +11,7 @@ use native.Mathlib.Omega.{arith}
 use borrow.Rule.Slice.PartMut.{putMid}
 use lib.ListN.{length, take, drop, length-append, length-drop, drop-of-length-le}
 use lib.Seq.{take-all, take-at, drop-at, drop-drop, drop-append-add}
-use Rattle.lists.specs.Parts.{over, pasted}
+use Rattle.lists.specs.Parts.{over}
 use Rattle.lists.proofs.Parts.{part-home}
 
 module _ {A : Type 0} where

@@ -1,9 +1,8 @@
 -- Lists that grow from the front, by stores and by lent parts that come home, and parts pasted into a list.
 --     Growing: growing-none, growing-more, growing-part, growing-done       the first n elements are v
 --     growing-all, last-two                                                 straight stores at 0, 1, ..; in the last two places
---     Pasting: pasting-none, pasting-more, pasting-done                     stores from place a on, the others as they were
 --     copied                                                                a whole list copied over another
---     parts-none, parts-more, parts-same                                    parts one behind the other; equal rules
+--     parts-more, parts-same                                                parts one behind the other; equal rules
 --     parts-split, parts-front, part-behind                                 what stands before part k and behind it
 --     length-parts, parts-at                                                where all parts are of one size
 --     part-home, part-read, front-home                                      a lent part that comes home, as a paste; read again; at the front
@@ -16,8 +15,8 @@ use native.Mathlib.Nat.{not-suc-le-zero, le-of-suc-le-suc, eq-or-lt-of-le, mul-l
 use native.Mathlib.Numerals.{add-one}
 use native.Mathlib.Omega.{arith}
 use borrow.Rule.Slice.PartMut.{putMid, postOf, post-is}
-use lib.ListN.{length, set, take, drop, getD, length-append, length-set, length-drop, drop-of-length-le}
-use lib.Seq.{take-suc-set, take-all, take-length, take-at, take-append-le, drop-at, drop-append-le, length-take-le, sets, sets-eq, length-sets, paste, paste-zero, paste-suc}
+use lib.ListN.{length, set, take, drop, length-append, length-set, length-drop, drop-of-length-le}
+use lib.Seq.{take-suc-set, take-all, take-length, take-at, take-append-le, drop-at, drop-append-le, length-take-le, sets, sets-eq, length-sets}
 use Rattle.lists.specs.Parts.{parts, pasted, over}
 
 module _ {A : Type 0} where
@@ -69,10 +68,6 @@ module _ {A : Type 0} where
       growing-done h (simp length-set (omega arith)) ∙ append-assoc (take n d) (a ∷ []) (b ∷ [])
 
   -- ---- parts one behind the other
-
-  pub parts-none : (f : ℕ → List A) → parts 0 f ≡ []
-  unfolding parts
-  parts-none f = refl
 
   pub parts-more : (n : ℕ) (f : ℕ → List A) → parts (n + 1) f ≡ parts n f ++ f n
   unfolding parts
@@ -153,27 +148,3 @@ module _ {A : Type 0} where
   pub part-read : (d w : List A) (a e : ℕ) → a ≤ length d → length w ≡ e - a → take (e - a) (drop a (putMid a (e - a) d w)) ≡ w
   part-read d w a e h l =
       ap (take (e - a)) (drop-at (take a d) (w ++ postOf a (e - a) d) a (length-take-le a d h)) ∙ take-at w (postOf a (e - a) d) (e - a) l
-
-  -- d is d₀ with the first k elements of v stored from place a on
-  pub record Pasting (a : ℕ) (v d₀ d : List A) (k : ℕ) : Type 0 where
-    pub below : k ≤ length v
-    pub room : a + length v ≤ length d₀
-    pub long : length d ≡ length d₀
-    pub is : d ≡ paste d₀ a v k
-
-  pub pasting-none : (a : ℕ) (v d₀ : List A) → a + length v ≤ length d₀ → Pasting a v d₀ d₀ 0
-  pasting-none a v d₀ r = record { below = zero-le; room = r; long = refl; is = paste-zero d₀ a v }
-
-  pub pasting-more : {a : ℕ} {v d₀ d : List A} {k : ℕ} (z : A) {x : A} → Pasting a v d₀ d k → k < length v → x ≡ getD v k z
-      → Pasting a v d₀ (set d (a + k) x) (k + 1)
-  pasting-more {a} {v} {d₀} {d} {k} z {x} p h e = record {
-    below = omega arith;
-    room = p .room;
-    long = length-set d (a + k) x ∙ p .long;
-    is = rw (p .is, e, add-one) (paste-suc d₀ a v k z (omega (arith, p .room)) h);
-  }
-
-  pub pasting-done : {a : ℕ} {v d₀ d : List A} {k : ℕ} → Pasting a v d₀ d k → length v ≤ k → d ≡ pasted a v d₀
-  pasting-done {a} {v} {d₀} {d} {k} p h =
-      let q : k ≡ length v = omega (arith, p .below) in
-      p .is ∙ rw (q, take-all (length v) v (omega arith))

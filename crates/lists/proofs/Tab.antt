@@ -5,15 +5,15 @@
 --     Squaring: squaring-none, squaring-more, squaring-row, squaring-done    a loop over y round one over x that stores the rule at n * y + x
 -- Assumes nothing.
 use mathlib.Core.Path.{_≡_, refl, sym, ap, _∙_}
-use mathlib.Core.List.{List, [], _∷_, _++_}
+use mathlib.Core.List.{List, [], _∷_}
 use mathlib.Core.Logic.{⊎-elim}
 use Prim.Native.Nat.{ℕ, zero, suc, _+_, _*_, _/_, _%_, _<_, _≤_, zero-le}
 use native.Mathlib.Nat.{not-suc-le-zero, le-of-suc-le-suc, eq-or-lt-of-le, mul-comm, mod-lt, div-lt-iff-lt-mul}
 use native.Mathlib.Numerals.{add-one}
 use native.Mathlib.Omega.{arith}
 use lib.Arith.{digits-lt, digits-div, digits-mod}
-use lib.ListN.{length, set, getD, take, length-append, length-set, List·getD-append}
-use lib.Seq.{take-suc-set, take-all, ext-getD, getD-at}
+use lib.ListN.{length, set, getD, length-append, length-set, List·getD-append}
+use lib.Seq.{ext-getD, getD-at}
 use Rattle.lists.specs.Tab.{tab, grid, inRaster}
 use Rattle.lists.proofs.Parts.{Growing, growing-none, growing-more, growing-done}
 

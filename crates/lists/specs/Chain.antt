@@ -1,6 +1,8 @@
 -- "Tests run in the table's order" (01, "What is sent back, and in which order it is tested"). Assumes nothing.
-use mathlib.Core.Bool.{Bool, cond}
+use mathlib.Core.Path.{_≡_}
+use mathlib.Core.Bool.{Bool, true, false, cond}
 use mathlib.Core.List.{List, [], _∷_}
+use mathlib.Core.Logic.{_⊎_, _↔_}
 
 -- a test, and what is sent back where it fails
 pub record Test (R : Type 0) : Type 0 where
@@ -24,3 +26,20 @@ chain (t ∷ ts) = cond (t .passes) (chain ts) (stop (t .refusal))
 abbrev pub written : {R A : Type 0} → Verdict R → A → A → A
 written pass new old = new
 written (stop r) new old = old
+
+-- ---- the words of "refused exactly if"
+
+-- every test passes
+abbrev pub AllPass : {R : Type 0} → List (Test R) → Type 0
+AllPass [] = Unit {0}
+AllPass (t ∷ ts) = (t .passes ≡ true) × AllPass ts
+
+-- some test fails, all before it pass, and r is its refusal
+abbrev pub RefusedWith : {R : Type 0} → List (Test R) → R → Type 0
+RefusedWith [] r = ⊥
+RefusedWith (t ∷ ts) r = ((t .passes ≡ false) × (r ≡ t .refusal)) ⊎ ((t .passes ≡ true) × RefusedWith ts r)
+
+-- a verdict is what the tests come to: pass exactly if all pass, a refusal exactly if its test fails and all before it pass
+pub record ExactlyIf {R : Type 0} (ts : List (Test R)) (v : Verdict R) : Type 0 where
+  pub passes : (v ≡ pass) ↔ AllPass ts
+  pub refuses : (r : R) → (v ≡ stop r) ↔ RefusedWith ts r

@@ -1,3 +1,4 @@
+pub mod Bytes
 pub mod Chain
 pub mod Every
 pub mod First

@@ -17,10 +17,8 @@ use lib.ListN.{length, getD}
 use mir.Syntax.{w16}
 use mir.Val.{SFits}
 use Rattle.lists.specs.Chain.{pass, chain}
-use Rattle.lists.specs.Fold.{fold}
-use Rattle.lists.proofs.Bytes.{Bytes}
+use Rattle.lists.specs.Bytes.{Bytes}
 use Rattle.lists.proofs.First.{first-none}
-use Rattle.lists.proofs.Fold.{fold-follow}
 use Rattle.lists.proofs.Parts.{parts-at}
 use Rattle.lists.proofs.Places.{parts-places}
 use Rattle.lists.proofs.Tab.{getD-tab}
@@ -30,12 +28,13 @@ use Rattle.residual.specs.Entry.{firstWide}
 use Rattle.residual.specs.Order.{inZigzag}
 use Rattle.residual.specs.Rebuild as residual
 use Rattle.residual.specs.Rebuild.{rescaledOf}
-use Rattle.block.proofs.Laws.{BlockLaws, block-laws}
+use Rattle.block.specs.Laws.{BlockLaws}
+use Rattle.block.proofs.Laws.{block-laws}
 use Rattle.record.specs.Records.{qpIn, modeIn, levelsIn}
 use Rattle.record.proofs.Back.{qp-back, mode-back, levels-back}
 use Rattle.picture.specs.declared.Layout.{Layout}
 use Rattle.picture.specs.Presence.{flagsOf}
-use Rattle.picture.specs.Order.{blockColumn, blockRow, blockCount, covers}
+use Rattle.picture.specs.Order.{blockColumn, blockRow, blockCount}
 use Rattle.picture.specs.Plane.{stride, blockOf, firstTurns}
 use Rattle.picture.proofs.Start.{by-one, turns-follow}
 use Rattle.picture.proofs.Bytes.{MakesBytes, length-gathered, gathered-bytes, block-bytes, turns-bytes}

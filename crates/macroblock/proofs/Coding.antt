@@ -4,7 +4,7 @@
 --     BlocksCoded: blocks-none, blocks-more, blocks-done     the loop over the blocks of a macroblock
 --     record-coded                                   its record
 -- Assumes nothing.
-use mathlib.Core.Path.{_≡_, refl, sym, ap, subst, _∙_}
+use mathlib.Core.Path.{_≡_, sym, ap, subst, _∙_}
 use mathlib.Core.List.{List, _++_}
 use Prim.Native.Nat.{ℕ, _+_, _-_, _*_, _<_, _≤_}
 use native.Mathlib.Omega.{arith}
@@ -21,7 +21,7 @@ use Rattle.lists.proofs.Tab.{Filling, filling-none, filling-more, filling-done}
 use Rattle.whole.proofs.Bound.{here, fits}
 use Rattle.whole.proofs.Steps.{each-at}
 use Rattle.predict.specs.Samples.{mask}
-use Rattle.predict.proofs.Least.{chosen-least, some-mode}
+use Rattle.predict.proofs.Least.{some-mode}
 use Rattle.block.specs.Block.{modeOf}
 use Rattle.block.specs.Entry.{Carries}
 use Rattle.block.specs.declared.inner.Block.{Block}

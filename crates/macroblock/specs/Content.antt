@@ -1,6 +1,5 @@
 -- The content of a macroblock's record: "by record QUANTIZER, all modes, then ranges, place = 16*number+block (block 0 for QUANTIZER)"
 -- (01, "What is sent back, and in which order it is tested"). Assumes nothing.
-use mathlib.Core.Path.{_≡_}
 use mathlib.Core.Bool.{Bool, not}
 use mathlib.Core.List.{List, [], _∷_}
 use Prim.Native.Nat.{ℕ, _+_, _*_}

@@ -8,7 +8,8 @@ use Prim.Native.Nat.{ℕ, _+_, _*_}
 use native.Mathlib.Omega.{arith}
 use lib.ListN.{length, getD}
 use Rattle.lists.specs.Fold.{fold}
-use Rattle.lists.proofs.Bytes.{Bytes, byte-cond, bytes-tab, bytes-grid, bytes-stores}
+use Rattle.lists.specs.Bytes.{Bytes}
+use Rattle.lists.proofs.Bytes.{byte-cond, bytes-tab, bytes-grid, bytes-stores}
 use Rattle.lists.proofs.Fold.{fold-keeps}
 use Rattle.lists.proofs.Tab.{length-tab}
 use Rattle.picture.specs.declared.Layout.{Layout}

@@ -4,7 +4,6 @@
 --     order-lt                  each sample of the picture has a number below the count of its blocks
 --     order-macroblock          which macroblock it is in
 --     ownerOf, macroblockOwning: read-back, own-stored, others-kept     a stored block is read back, and no sample of another number has changed
---     own-macroblock            and none of another macroblock
 -- Assumes nothing.
 use mathlib.Core.Path.{_≡_, refl, sym, ap, _∙_}
 use mathlib.Core.List.{List}
@@ -104,9 +103,6 @@ module _ (l : Layout) (some : 0 < l .width) where
   pub row-lt : (i : ℕ) → i < planeLength 16 l → i / stride 16 l < 16 * l .height
   row-lt i h = div-lt-iff-lt-mul (let z : 0 < 16 * l .width = omega arith in z) .1 (omega arith)
 
-  pub owner-lt : (i : ℕ) → i < planeLength 16 l → ownerOf l i < 16 * (l .width * l .height)
-  owner-lt i h = order-lt l (i % stride 16 l) (i / stride 16 l) (column-lt i) (row-lt i h)
-
   module _ (n m b : ℕ) (among : m < l .width * l .height) (start : Starts n b) (block plane : List ℕ) where
     pub read-back : length block ≡ n * n → length plane ≡ planeLength 16 l → blockOf n l m b (withBlock n l m b block plane) ≡ block
     read-back e f = read-stored n (stride 16 l) (blockColumn l m b) (blockRow l m b) block plane e (rw f (room-of n l m b some among start))
@@ -116,14 +112,6 @@ module _ (l : Layout) (some : 0 < l .width) where
         rw (spot i) at
         (sample-off n (stride 16 l) (blockColumn l m b) (blockRow l m b) block plane (room-of n l m b some among start .wide) (i % stride 16 l) (i / stride 16 l) (column-lt i)
         (λ u v hu hv x y. other (rw (x, y) (own-orders n l m b u v start hu hv))))
-
-    pub macroblocks-kept : (i : ℕ) → (macroblockOwning 16 l i ≡ m → ⊥) → getD (withBlock n l m b block plane) i 0 ≡ getD plane i 0
-    macroblocks-kept i other =
-        others-kept i
-        (λ w.
-        let f = stands n b start in
-        let o = order-macroblock l (i % stride 16 l) (i / stride 16 l) in
-        other (omega (arith, f .below, f .block, o .0, o .1, w .0, w .1)))
 
     pub own-stored : length plane ≡ planeLength 16 l → (i : ℕ) → Between (ownerOf l) (orderOf m b) (orderOf m b + covers n) i
         → getD (withBlock n l m b block plane) i 0 ≡ getD block ((i / stride 16 l - blockRow l m b) * n + (i % stride 16 l - blockColumn l m b)) 0

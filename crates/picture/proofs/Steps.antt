@@ -7,14 +7,14 @@
 --     picture-start-has-no-value, made-start-has-no-value     what stood in the plane at the start changes no sample, and no record
 -- Assumes nothing.
 use mathlib.Core.Path.{_≡_}
-use mathlib.Core.Bool.{Bool, true, cond}
+use mathlib.Core.Bool.{Bool, cond}
 use mathlib.Core.List.{List}
 use mathlib.Core.Logic.{inr}
 use Prim.Native.Nat.{ℕ, suc, _*_, _/_, _%_, _<_, _≤_}
 use native.Mathlib.Nat.{mod-lt, mul-comm, div-lt-iff-lt-mul}
 use native.Mathlib.Omega.{arith}
 use lib.Arith.{digits-lt}
-use lib.ListN.{length, getD}
+use lib.ListN.{length}
 use Rattle.lists.specs.Fold.{fold}
 use Rattle.lists.specs.Parts.{parts}
 use Rattle.lists.proofs.Alike.{Agree, Looks, Also, Step, agree-less, step-sees, step-agree, step-fold, step-choice, start-forgotten}

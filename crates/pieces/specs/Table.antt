@@ -58,9 +58,9 @@ abbrev pub levelAt28 : ℤ → List ℤ
 levelAt28 y = levelOf 0 (periodOf 28) (mfAt 28 0) y ∷ []
 
 -- the sample at (x,y); a mode that isn't permitted has none
-abbrev pub sampleAt : ℕ → ℕ → Predicted → List ℤ
-sampleAt x y (samples l) = pos (getD l (4 * y + x) 0) ∷ []
-sampleAt x y none = []
+abbrev pub sampleThere : ℕ → ℕ → Predicted → List ℤ
+sampleThere x y (samples l) = pos (getD l (4 * y + x) 0) ∷ []
+sampleThere x y none = []
 
 -- "A..H = 10,20..80", "I..L = 10,20,30,41"; 200 stands where nothing is present
 abbrev pub top : List ℕ
@@ -70,7 +70,7 @@ abbrev pub left : List ℕ
 left = 200 ∷ 200 ∷ 200 ∷ 200 ∷ 200 ∷ 200 ∷ 200 ∷ 200 ∷ 200 ∷ 10 ∷ 20 ∷ 30 ∷ 41 ∷ []
 
 abbrev pub predictedAt : (neighbours : List ℕ) (flags mode x y : ℕ) → List ℤ
-predictedAt neighbours flags mode x y = sampleAt x y (predicted (mask neighbours flags) mode)
+predictedAt neighbours flags mode x y = sampleThere x y (predicted (mask neighbours flags) mode)
 
 abbrev pub chromaAt : ℕ → ℤ → List ℤ
 chromaAt qp offset = pos (chromaOf qp offset) ∷ []

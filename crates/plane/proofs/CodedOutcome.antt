@@ -4,17 +4,16 @@
 --     same-coded-plane     an answer is known by what it says and how many bytes it used
 --     Outcome, outcome     where it answers `Bytes`, no test has failed
 -- Assumes nothing.
-use mathlib.Core.Path.{_≡_, sym, ap, subst, _∙_}
+use mathlib.Core.Path.{_≡_, sym, ap, _∙_}
 use mathlib.Core.Bool.{true, false}
 use mathlib.Core.List.{List}
 use Prim.Native.Nat.{ℕ, _<_, _≤_}
-use native.Mathlib.Omega.{arith}
 use borrow.Author.Tests.{eqb-true, leb-true, eq-eqb, ne-eqb, le-leb, lt-leb}
 use lib.ListN.{length}
-use Rattle.lists.specs.Chain.{pass, stop, chain}
+use Rattle.lists.specs.Chain.{pass, stop, chain, ExactlyIf}
 use Rattle.lists.specs.Parts.{over}
 use Rattle.lists.proofs.Over.{over-all}
-use Rattle.lists.proofs.Chain.{ExactlyIf, chain-exactly-if, holds-new}
+use Rattle.lists.proofs.Chain.{chain-exactly-if, holds-new}
 use Rattle.refusal.specs.declared.Refusal.{Refusal}
 use Rattle.refusal.specs.declared.Refusal.the-variants as refusal
 use Rattle.refusal.proofs.Same.{says, says-same, says-exactly-if}

@@ -5,14 +5,15 @@
 --     head-read, head-refused, decodes-by     what a head tells, and the tests behind it
 --     decode-plane-refuses-exactly-if
 -- Assumes nothing.
-use mathlib.Core.Path.{_≡_, refl, sym, ap, subst, _∙_}
+use mathlib.Core.Path.{_≡_, refl, sym, ap, _∙_}
 use mathlib.Core.Bool.{true}
 use mathlib.Core.List.{List, _++_}
 use Prim.Native.Nat.{ℕ}
 use borrow.Author.Tests.{eq-eqb, ne-eqb}
 use lib.ListN.{length}
-use Rattle.lists.specs.Chain.{Test, Verdict, pass, stop, chain, written}
-use Rattle.lists.proofs.Chain.{ExactlyIf, chain-exactly-if, chain-passed, chain-refused, pass-not-stop}
+use Rattle.lists.specs.Chain.{Test, Verdict, pass, stop, chain, written, ExactlyIf}
+use Rattle.lists.proofs.Chain.{chain-passed, chain-refused}
+use Rattle.lists.proofs.Chains.{chain-front, chain-behind}
 use Rattle.refusal.specs.Number.{said}
 use Rattle.refusal.specs.declared.Answer.{Answer}
 use Rattle.refusal.specs.declared.Answer.the-variants.{Done, Refused}
@@ -23,7 +24,7 @@ use Rattle.record.specs.declared.Head.{Head}
 use Rattle.record.specs.declared.Head.the-variants.{Legal}
 use Rattle.record.specs.declared.Head.the-variants as head-variants
 use Rattle.record.specs.Entry as head
-use Rattle.record.specs.Entry.{ReadsHead, headTests, widthAt, heightAt, rowsAt, sizeHolds}
+use Rattle.record.specs.Entry.{ReadsHead, headTests, sizeHolds}
 use Rattle.record.specs.Records.{headLength, fileLength}
 use Rattle.record.proofs.Heads.{sized-of, head-told}
 use Rattle.picture.specs.declared.Layout.{Layout}
@@ -48,11 +49,7 @@ module _ (l : Layout) (place : ℕ) (file plane : List ℕ) where
 
   -- what rebuilding asks
   pub records-passed : chain recordsTests ≡ pass → (chain (formsTests l place file) ≡ pass) × (chain (contentsTests l (recordIn file place)) ≡ pass)
-  records-passed e = by (chain (formsTests l place file)) refl
-    where
-      by : (v : Verdict Refusal) → chain (formsTests l place file) ≡ v → (chain (formsTests l place file) ≡ pass) × (chain (contentsTests l (recordIn file place)) ≡ pass)
-      by pass q = (q, sym (chain-passed (formsTests l place file) (contentsTests l (recordIn file place)) q) ∙ e)
-      by (stop r) q = absurd (pass-not-stop (sym e ∙ chain-refused (formsTests l place file) (contentsTests l (recordIn file place)) r q))
+  records-passed e = (chain-front (formsTests l place file) (contentsTests l (recordIn file place)) e, chain-behind (formsTests l place file) (contentsTests l (recordIn file place)) e)
 
 -- ---- what the code leaves behind the head
 

@@ -3,6 +3,7 @@ pub mod CodedOutcome
 pub mod CodedStart
 pub mod Coding
 pub mod Entry
+pub mod FormRefused
 pub mod OwnRecord
 pub mod OwnWitness
 pub mod Start

@@ -5,14 +5,12 @@
 --     own-record-coded            the same by the contract, of two planes that were coded
 -- That record m differs where macroblock m does is a witness by evaluation (OwnWitness).
 -- Assumes nothing.
-use mathlib.Core.Path.{_≡_, refl, sym, ap, _∙_}
+use mathlib.Core.Path.{_≡_, sym, ap, _∙_}
 use mathlib.Core.List.{List, _++_}
 use Prim.Native.Nat.{ℕ, _+_, _*_, _/_, _%_, _<_, _≤_}
 use native.Mathlib.Omega.{arith}
 use lib.Arith.{digits-div, digits-mod}
 use lib.ListN.{length, take}
-use lib.Seq.{take-at}
-use Rattle.lists.specs.Parts.{parts}
 use Rattle.lists.specs.Tab.{grid}
 use Rattle.lists.proofs.Alike.{Agree}
 use Rattle.lists.proofs.Fold.{fold-follow}

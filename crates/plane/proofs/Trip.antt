@@ -14,7 +14,8 @@ use native.Mathlib.Omega.{arith}
 use lib.ListN.{length}
 use Rattle.lists.specs.Chain.{Verdict, pass, chain, written}
 use Rattle.lists.specs.Parts.{parts}
-use Rattle.lists.proofs.Bytes.{Bytes, bytes-tab}
+use Rattle.lists.specs.Bytes.{Bytes}
+use Rattle.lists.proofs.Bytes.{bytes-tab}
 use Rattle.lists.proofs.Chain.{chain-passed}
 use Rattle.lists.proofs.Chains.{chain-parts}
 use Rattle.lists.proofs.Fold.{fold-follow, fold-keeps}

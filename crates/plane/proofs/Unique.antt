@@ -1,5 +1,5 @@
 -- The contracts of `plane` determine what coding and decoding answer, and the file and the plane that they leave. Assumes nothing.
-use mathlib.Core.Path.{_≡_, sym, _∙_}
+use mathlib.Core.Path.{sym, _∙_}
 use mathlib.Core.List.{List}
 use Prim.Native.Nat.{ℕ}
 use denote.Ref.{now}

@@ -3,10 +3,9 @@
 --     Walking: walking-none, walking-more       the place is that at which record m begins
 --     part-inside, part-long, part-is           what is lent from there lies in the file, and is record m
 -- Assumes nothing.
-use mathlib.Core.Path.{_≡_, refl, sym, ap, _∙_}
+use mathlib.Core.Path.{_≡_, sym, ap, _∙_}
 use mathlib.Core.List.{List}
 use Prim.Native.Nat.{ℕ, _+_, _-_, _<_, _≤_}
-use native.Mathlib.Omega.{arith}
 use lib.ListN.{length, take, drop}
 use Rattle.lists.specs.Chain.{chain, pass}
 use Rattle.record.specs.Faults.{walkOf}

@@ -65,9 +65,14 @@ abbrev pub bytesUsed : CodedPlane → ℕ
 bytesUsed (Bytes used) = used
 bytesUsed (Refused r) = 0
 
--- what `code_plane` makes of the file area and the rebuilt plane as they were: file′ and rebuilt′
-pub record CodesPlane (width height qp : ℕ) (plane file rebuilt : List ℕ) (r : CodedPlane) (file′ rebuilt′ : List ℕ) : Type 0 where
-  pub says : Says (saidPlane r) (chain (codePlaneTests width height qp plane file rebuilt))
-  pub used : bytesUsed r ≡ written (chain (codePlaneTests width height qp plane file rebuilt)) (length (codedFile (layoutOf width height) qp plane)) 0
-  pub filed : file′ ≡ written (chain (codePlaneTests width height qp plane file rebuilt)) (over (codedFile (layoutOf width height) qp plane) file) file
-  pub stored : rebuilt′ ≡ written (chain (codePlaneTests width height qp plane file rebuilt)) (codedPlane (layoutOf width height) qp plane) rebuilt
+-- what is left of the file area and the rebuilt plane by a verdict: file′ and rebuilt′
+pub record LeavesPlane (v : Verdict Refusal) (l : Layout) (qp : ℕ) (plane file rebuilt : List ℕ) (r : CodedPlane) (file′ rebuilt′ : List ℕ) : Type 0 where
+  pub says : Says (saidPlane r) v
+  pub used : bytesUsed r ≡ written v (length (codedFile l qp plane)) 0
+  pub filed : file′ ≡ written v (over (codedFile l qp plane) file) file
+  pub stored : rebuilt′ ≡ written v (codedPlane l qp plane) rebuilt
+
+-- what `code_plane` makes of them as they were
+abbrev pub CodesPlane : (width height qp : ℕ) (plane file rebuilt : List ℕ) (r : CodedPlane) (file′ rebuilt′ : List ℕ) → Type 0
+CodesPlane width height qp plane file rebuilt r file′ rebuilt′ =
+    LeavesPlane (chain (codePlaneTests width height qp plane file rebuilt)) (layoutOf width height) qp plane file rebuilt r file′ rebuilt′

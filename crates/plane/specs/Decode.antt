@@ -3,10 +3,10 @@
 -- (01, "What is sent back, and in which order it is tested"). Assumes nothing.
 use mathlib.Core.Path.{_≡_}
 use mathlib.Core.List.{List, _∷_, _++_}
-use Prim.Native.Nat.{ℕ}
+use Prim.Native.Nat.{ℕ, _<_}
 use lib.Dec.{eqb}
-use lib.ListN.{length}
-use Rattle.lists.specs.Chain.{Test, test, chain, written}
+use lib.ListN.{length, drop}
+use Rattle.lists.specs.Chain.{Test, test, pass, stop, chain, written}
 use Rattle.lists.specs.Fold.{fold}
 use Rattle.lists.specs.Parts.{parts}
 use Rattle.lists.specs.Tab.{tab}
@@ -15,8 +15,9 @@ use Rattle.refusal.specs.declared.Answer.{Answer}
 use Rattle.refusal.specs.declared.Refusal.{Refusal}
 use Rattle.refusal.specs.declared.Refusal.the-variants as refusal
 use Rattle.record.specs.Entry.{headTests, widthAt, heightAt, rowsAt}
-use Rattle.record.specs.Faults.{walkOf, walkTests}
+use Rattle.record.specs.Faults.{formTests, walkOf, walkTests}
 use Rattle.record.specs.Records.{headLength, fileLength, recordAt, recordPlace}
+use Rattle.record.specs.declared.Fault.{Fault}
 use Rattle.picture.specs.declared.Layout.{Layout}
 use Rattle.picture.specs.Order.{countOf}
 use Rattle.picture.specs.Plane.{planeLength}
@@ -78,3 +79,16 @@ pub record DecodesBody (l : Layout) (place : ℕ) (file before : List ℕ) (r : 
 pub record Decodes (file before : List ℕ) (r : Answer) (after : List ℕ) : Type 0 where
   pub says : Says (said r) (chain (decodeTests file before))
   pub wrote : after ≡ written (chain (decodeTests file before)) (decodedPlane file) before
+
+-- FORM is answered with a place because of the head, the file's length, or the first record whose own tests fail: "head (short, mark, sum: 9,
+-- place 0) .., file length (9, place = its length), then, record by record, mark, number, sum (9, place = the record's first byte)"
+pub data FormRefused (file before : List ℕ) (place : ℕ) : Type 0 where
+  at-head : chain (headTests file) ≡ stop (refusal.Form place) → FormRefused file before place
+  by-length :
+      chain (headTests file) ≡ pass → length before ≡ planeLength 16 (layoutIn file) → (length file ≡ fileLength (countOf (layoutIn file)) → ⊥)
+      → place ≡ length file → FormRefused file before place
+  at-record :
+      chain (headTests file) ≡ pass → length before ≡ planeLength 16 (layoutIn file) → length file ≡ fileLength (countOf (layoutIn file))
+      → (m : ℕ) → m < countOf (layoutIn file) → place ≡ recordPlace m file headLength
+      → ((k : ℕ) → k < m → chain (formTests k (drop (recordPlace k file headLength) file)) ≡ pass)
+      → (fault : Fault) → chain (formTests m (drop (recordPlace m file headLength) file)) ≡ stop fault → FormRefused file before place

@@ -6,17 +6,19 @@
 -- Assumes nothing.
 use mathlib.Core.Path.{_≡_, refl, sym, ap, _∙_}
 use mathlib.Core.Bool.{Bool, true, false, _&&_}
-use mathlib.Core.List.{List, _++_}
-use Prim.Native.Nat.{ℕ, zero, suc, _+_, _-_, _*_, _%_, _<_, _≤_}
+use mathlib.Core.List.{List, []}
+use Prim.Native.Nat.{ℕ, zero, suc, _+_, _*_, _%_, _<_, _≤_}
 use native.Mathlib.Omega.{arith}
-use lib.Dec.{ltb, leb, eqb}
+use lib.Dec.{ltb, eqb}
+use lib.IntN.{ℤ, pos, negsuc, _-ℤ_}
 use lib.ListN.{length, getD}
 use Rattle.lists.specs.Total.{total}
-use Rattle.lists.proofs.Bytes.{Bytes, bytes-none, bytes-append, bytes-take, bytes-drop, bytes-replicate, byte-cond, bytes-cond, bytes-grid}
+use Rattle.lists.specs.Bytes.{Bytes}
+use Rattle.lists.proofs.Bytes.{bytes-none, bytes-append, bytes-take, bytes-drop, bytes-replicate, byte-cond, bytes-cond, bytes-grid}
 use Rattle.predict.specs.Samples.{Side, here, missing, Round, bitOf, sideIf, aboveOf, mask}
-use Rattle.predict.specs.Rules.{avg2, avg3, mean, one, three, samplesOf, predicted, permitted}
+use Rattle.predict.specs.Rules.{avg2, avg3, rowOf, byZ, mean, one, three, samplesOf, predicted, permitted}
 use Rattle.predict.specs.Rules.{vertical, horizontal, downLeft, downRight, verticalRight, horizontalDown, verticalLeft, horizontalUp}
-use Rattle.predict.specs.Choice.{Best, nothing, at, chosen}
+use Rattle.predict.specs.Choice.{Best, nothing, at, chosen, ChosenMode}
 use Rattle.predict.specs.Entry.{bestSamples}
 use Rattle.predict.proofs.Area.{length-filled, permitted-cost}
 use Rattle.predict.proofs.Least.{some-mode}
@@ -35,23 +37,27 @@ unfolding total
 byte-four b = omega (arith, b .byte 0, b .byte 1, b .byte 2, b .byte 3)
 
 -- a row of bytes
-abbrev Row : (ℕ → ℕ) → Type 0
-Row T = (k : ℕ) → T k < 256
+abbrev Row : (ℤ → ℕ) → Type 0
+Row T = (k : ℤ) → T k < 256
+
+row-bytes : {M side : List ℕ} → Bytes M → Bytes side → Row (rowOf M side)
+row-bytes m s (pos k) = s .byte k
+row-bytes m s (negsuc k) = m .byte k
 
 -- a rule over one row, and over two
-abbrev Keeps : ((ℕ → ℕ) → ℕ → ℕ → ℕ) → Type 0
-Keeps rule = (T : ℕ → ℕ) → Row T → (x y : ℕ) → rule T x y < 256
+abbrev Keeps : ((ℤ → ℕ) → ℕ → ℕ → ℕ) → Type 0
+Keeps rule = (T : ℤ → ℕ) → Row T → (x y : ℕ) → rule T x y < 256
 
-abbrev KeepsBoth : ((T S : ℕ → ℕ) → ℕ → ℕ → ℕ) → Type 0
-KeepsBoth rule = (T S : ℕ → ℕ) → Row T → Row S → (x y : ℕ) → rule T S x y < 256
+abbrev KeepsBoth : ((T S : ℤ → ℕ) → ℕ → ℕ → ℕ) → Type 0
+KeepsBoth rule = (T S : ℤ → ℕ) → Row T → Row S → (x y : ℕ) → rule T S x y < 256
 
 vertical-keeps : Keeps vertical
 unfolding vertical
-vertical-keeps T t x y = t x
+vertical-keeps T t x y = t (pos x)
 
 horizontal-keeps : Keeps horizontal
 unfolding horizontal
-horizontal-keeps S s x y = s y
+horizontal-keeps S s x y = s (pos y)
 
 down-left-keeps : Keeps downLeft
 unfolding downLeft
@@ -62,11 +68,15 @@ unfolding downRight
 down-right-keeps T S t s x y =
     byte-cond (ltb y x) (byte-avg3 (t _) (t _) (t _)) (byte-cond (ltb x y) (byte-avg3 (s _) (s _) (s _)) (byte-avg3 (t _) (t _) (s _)))
 
+by-z-keeps : (z : ℤ) {a b c d : ℕ} → a < 256 → b < 256 → c < 256 → d < 256 → byZ z a b c d < 256
+by-z-keeps (pos z) a b c d = byte-cond (eqb (z % 2) 0) a b
+by-z-keeps (negsuc zero) a b c d = c
+by-z-keeps (negsuc (suc n)) a b c d = d
+
 vertical-right-keeps : KeepsBoth verticalRight
 unfolding verticalRight
 vertical-right-keeps T S t s x y =
-    byte-cond (leb y (2 * x)) (byte-cond (eqb ((2 * x - y) % 2) 0) (byte-avg2 (t _) (t _)) (byte-avg3 (t _) (t _) (t _)))
-    (byte-cond (eqb (2 * x + 1) y) (byte-avg3 (s _) (t _) (t _)) (byte-avg3 (s _) (s _) (s _)))
+    by-z-keeps (pos (2 * x) -ℤ pos y) (byte-avg2 (t _) (t _)) (byte-avg3 (t _) (t _) (t _)) (byte-avg3 (s _) (t _) (t _)) (byte-avg3 (s _) (s _) (s _))
 
 horizontal-down-keeps : KeepsBoth horizontalDown
 horizontal-down-keeps T S t s x y = vertical-right-keeps S T s t y x
@@ -115,20 +125,20 @@ mean-byte (here a) missing h k = omega (arith, byte-four h)
 mean-byte missing (here l) h k = omega (arith, byte-four k)
 mean-byte missing missing h k = omega arith
 
-one-bytes : (side : Side) → SideBytes side → (rule : (ℕ → ℕ) → ℕ → ℕ → ℕ) → Keeps rule → Bytes (samplesOf (one side rule))
-one-bytes (here l) b rule keeps = bytes-grid 4 _ (keeps (λ k. getD l k 0) (b .byte))
+one-bytes : (side : Side) → SideBytes side → (rule : (ℤ → ℕ) → ℕ → ℕ → ℕ) → Keeps rule → Bytes (samplesOf (one side rule))
+one-bytes (here l) b rule keeps = bytes-grid 4 _ (keeps (rowOf [] l) (row-bytes bytes-none b))
 one-bytes missing b rule keeps = bytes-none
 
-three-bytes : (a l m : Side) → SideBytes a → SideBytes l → SideBytes m → (rule : (T S : ℕ → ℕ) → ℕ → ℕ → ℕ) → KeepsBoth rule
+three-bytes : (a l m : Side) → SideBytes a → SideBytes l → SideBytes m → (rule : (T S : ℤ → ℕ) → ℕ → ℕ → ℕ) → KeepsBoth rule
     → Bytes (samplesOf (three (record { above = a; left = l; corner = m }) rule))
 three-bytes (here a) (here l) (here m) b c d rule keeps =
-    bytes-grid 4 _ (keeps (λ k. getD (m ++ a) k 0) (λ k. getD (m ++ l) k 0) (bytes-append m a d b .byte) (bytes-append m l d c .byte))
+    bytes-grid 4 _ (keeps (rowOf m a) (rowOf m l) (row-bytes d b) (row-bytes d c))
 three-bytes (here a) (here l) missing b c d rule keeps = bytes-none
 three-bytes (here a) missing m b c d rule keeps = bytes-none
 three-bytes missing l m b c d rule keeps = bytes-none
 
 module _ (r : Round) (b : RoundBytes r) where
-  three-of : (rule : (T S : ℕ → ℕ) → ℕ → ℕ → ℕ) → KeepsBoth rule → Bytes (samplesOf (three r rule))
+  three-of : (rule : (T S : ℤ → ℕ) → ℕ → ℕ → ℕ) → KeepsBoth rule → Bytes (samplesOf (three r rule))
   three-of rule keeps = three-bytes (r .above) (r .left) (r .corner) (b .above) (b .left) (b .corner) rule keeps
 
   mode-bytes : (m : ℕ) → Bytes (samplesOf (predicted r m))
@@ -157,14 +167,6 @@ module _ (n : List ℕ) (f : ℕ) where
   module _ (e : length n ≡ 13) where
     pub predicted-sixteen : (m : ℕ) → permitted f m ≡ true → length (samplesOf (predicted (mask n f) m)) ≡ 16
     predicted-sixteen m p = ap length (sym (filled-is n f m e p refl refl refl)) ∙ length-filled _ _ f m (mode-below-9 f m p)
-
--- the chosen mode of a block, with its SAD
-pub record ChosenMode (n : List ℕ) (f : ℕ) (block : List ℕ) : Type 0 where
-  pub mode : ℕ
-  pub sad : ℕ
-  pub is : chosen (mask n f) block ≡ at mode sad
-  pub allowed : permitted f mode ≡ true
-  pub within : mode < 9
 
 module _ (n : List ℕ) (f : ℕ) (block : List ℕ) (e : length n ≡ 13) where
   pub chosen-mode : ChosenMode n f block

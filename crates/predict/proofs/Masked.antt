@@ -5,13 +5,13 @@
 --     mode-below-9     what is permitted has a number below 9
 --     filled-is        the same for what the code has filled
 -- Assumes nothing.
-use mathlib.Core.Path.{_≡_, refl, sym, ap, ap₂, subst, _∙_, fun-ext}
+use mathlib.Core.Path.{_≡_, refl, sym, ap, ap₂, subst, _∙_}
 use mathlib.Core.Bool.{Bool, true, false, cond, _&&_, false≢true}
 use mathlib.Core.List.{List, [], _∷_}
 use mathlib.Core.Logic.{_↔_}
 use Prim.Native.Nat.{ℕ, zero, suc, _<_}
-use native.Mathlib.Numerals.{add-one}
 use lib.Dec.{lit≤}
+use lib.IntN.{ℤ}
 use lib.ListN.{length, getD}
 use Rattle.lists.specs.Tab.{grid, tab}
 use Rattle.lists.proofs.Tab.{tab-of}
@@ -20,14 +20,11 @@ use Rattle.predict.specs.Rules.{samples, none, samplesOf, one, three, pr
 use Rattle.predict.specs.Rules.{vertical, horizontal, downLeft, downRight, verticalRight, horizontalDown, verticalLeft, horizontalUp}
 use Rattle.predict.specs.Code.{pastCorner, withCorner, topRow, leftRow, filled}
 
-past : (m : ℕ) (l : List ℕ) → (λ (k : ℕ). getD l k 0) ≡ pastCorner (m ∷ l)
-past m l = fun-ext (λ k. rw add-one)
-
-one-is : (b : Bool) (m : ℕ) (l : List ℕ) (rule : (ℕ → ℕ) → ℕ → ℕ → ℕ) → one (sideIf b l) rule ≡ cond b (samples (grid 4 (rule (pastCorner (m ∷ l))))) none
-one-is true m l rule = ap (λ (T : ℕ → ℕ). samples (grid 4 (rule T))) (past m l)
+one-is : (b : Bool) (m : ℕ) (l : List ℕ) (rule : (ℤ → ℕ) → ℕ → ℕ → ℕ) → one (sideIf b l) rule ≡ cond b (samples (grid 4 (rule (pastCorner (m ∷ l))))) none
+one-is true m l rule = refl
 one-is false m l rule = refl
 
-three-is : (a b c : Bool) (m : ℕ) (la ll : List ℕ) (rule : (T S : ℕ → ℕ) → ℕ → ℕ → ℕ)
+three-is : (a b c : Bool) (m : ℕ) (la ll : List ℕ) (rule : (T S : ℤ → ℕ) → ℕ → ℕ → ℕ)
     → three (record { above = sideIf a la; left = sideIf b ll; corner = sideIf c (m ∷ []) }) rule
     ≡ cond (a && (b && c)) (samples (grid 4 (rule (withCorner (m ∷ la)) (withCorner (m ∷ ll))))) none
 three-is true true true m la ll rule = refl

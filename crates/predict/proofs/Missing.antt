@@ -8,21 +8,13 @@ use mathlib.Core.Path.{_≡_, refl, sym, ap, ap₂, _∙_}
 use mathlib.Core.Bool.{Bool, true, false}
 use mathlib.Core.List.{List, _++_}
 use Prim.Native.Nat.{ℕ}
-use lib.ListN.{length, getD, replicate}
+use lib.ListN.{getD, replicate}
 use Rattle.refusal.proofs.Same.{says-same, same-answer}
 use Rattle.refusal.specs.declared.Answer.{Answer}
 use Rattle.predict.specs.declared.Chosen.{Chosen}
-use Rattle.predict.specs.Samples.{cornerOf, aboveOf, upperRightOf, leftOf, bitOf, sideIf, eightOf, mask}
+use Rattle.predict.specs.Samples.{cornerOf, aboveOf, upperRightOf, leftOf, bitOf, sideIf, eightOf, mask, AgreeWherePresent}
 use Rattle.predict.specs.Entry.{Predicts, Chooses}
 use Rattle.predict.proofs.Outcome.{same-chosen}
-
--- "bit 0 A-D, bit 1 I-L, bit 2 M, bit 3 E-H"; E-H count only where A-D are present too
-pub record AgreeWherePresent (f : ℕ) (n n′ : List ℕ) : Type 0 where
-  pub long : length n ≡ length n′
-  pub above : bitOf f 0 ≡ true → aboveOf n ≡ aboveOf n′
-  pub upper-right : bitOf f 0 ≡ true → bitOf f 3 ≡ true → upperRightOf n ≡ upperRightOf n′
-  pub left : bitOf f 1 ≡ true → leftOf n ≡ leftOf n′
-  pub corner : bitOf f 2 ≡ true → cornerOf n ≡ cornerOf n′
 
 pub same-side : (b : Bool) (l l′ : List ℕ) → (b ≡ true → l ≡ l′) → sideIf b l ≡ sideIf b l′
 same-side true l l′ h = ap (sideIf true) (h refl)

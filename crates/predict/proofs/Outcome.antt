@@ -9,8 +9,7 @@ use mathlib.Core.List.{List}
 use Prim.Native.Nat.{ℕ, _<_, _≤_}
 use borrow.Author.Tests.{eq-eqb, ne-eqb, le-leb, lt-leb}
 use lib.ListN.{length}
-use Rattle.lists.specs.Chain.{Verdict, pass, stop, chain, written}
-use Rattle.lists.proofs.Chain.{ExactlyIf}
+use Rattle.lists.specs.Chain.{pass, stop, chain, ExactlyIf}
 use Rattle.refusal.specs.Number.{said}
 use Rattle.refusal.proofs.Same.{says, says-exactly-if}
 use Rattle.refusal.specs.declared.Refusal.{Refusal}
@@ -22,7 +21,7 @@ use Rattle.predict.specs.declared.Chosen.the-variants.{Mode, Refused}
 use Rattle.predict.specs.declared.inner.Choice.{Choice}
 use Rattle.predict.specs.Samples.{Round, mask}
 use Rattle.predict.specs.Rules.{samplesOf, predicted, permitted}
-use Rattle.predict.specs.Choice.{nothing, at, chosen}
+use Rattle.predict.specs.Choice.{at}
 use Rattle.predict.specs.Entry.{predictTests, Predicts, chooseTests, saidChosen, bestIn, bestSamples, Chooses, Picks}
 
 -- ---- predict

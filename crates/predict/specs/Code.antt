@@ -2,22 +2,23 @@
 -- Assumes nothing.
 use mathlib.Core.Bool.{cond}
 use mathlib.Core.List.{List, [], _∷_}
-use Prim.Native.Nat.{ℕ, _+_, _*_, _≤_}
-use lib.Dec.{ltb}
+use Prim.Native.Nat.{ℕ, _*_}
+use lib.IntN.{ℤ}
 use lib.ListN.{getD, take, drop}
 use Rattle.lists.specs.Tab.{grid}
 use Rattle.lists.specs.Parts.{parts}
+use Rattle.choice.specs.Choice.{Cost, is, no, sad}
+use Rattle.choice.specs.declared.inner.Standing.{Standing}
 use Rattle.predict.specs.Samples.{bitOf, sideIf}
-use Rattle.predict.specs.Rules.{mean, permitted, vertical, horizontal, downLeft, downRight, verticalRight, horizontalDown, verticalLeft, horizontalUp}
-use Rattle.predict.specs.Choice.{Cost, is, no, Best, nothing, at, sad}
-use Rattle.predict.specs.declared.choice.Standing.{Standing}
+use Rattle.predict.specs.Rules.{rowOf, mean, permitted, vertical, horizontal, downLeft, downRight, verticalRight, horizontalDown, verticalLeft, horizontalUp}
+use Rattle.predict.specs.declared.inner.Choice.{Choice}
 
--- a row with the corner in front, and the same counted from past the corner
-abbrev pub withCorner : List ℕ → ℕ → ℕ
-withCorner l k = getD l k 0
+-- T or S over a row of the code, which has the corner in front; and the same for a mode that is shown no corner
+abbrev pub withCorner : List ℕ → ℤ → ℕ
+withCorner l = rowOf (take 1 l) (drop 1 l)
 
-abbrev pub pastCorner : List ℕ → ℕ → ℕ
-pastCorner l k = getD l (k + 1) 0
+abbrev pub pastCorner : List ℕ → ℤ → ℕ
+pastCorner l = rowOf [] (drop 1 l)
 
 -- M, A to H with what stands for E to H; and M, I to L: whatever is lent there, missing or not
 abbrev pub topRow : List ℕ → ℕ → List ℕ
@@ -47,24 +48,13 @@ filled t s f m =
     ∷ []) m []
 
 -- all nine, one behind the other
-abbrev pub areaOf : (t s : List ℕ) → ℕ → List ℕ
-areaOf t s f = parts 9 (filled t s f)
+abbrev pub areaFilled : (t s : List ℕ) → ℕ → List ℕ
+areaFilled t s f = parts 9 (filled t s f)
 
 -- a mode's cost, read from the area
 unfoldable pub areaCost : List ℕ → ℕ → List ℕ → ℕ → Cost
 areaCost area f block m = cond (permitted f m) (is (sad 16 (take 16 (drop (16 * m) area)) block)) no
 
--- how the code holds the best so far: before the first permitted mode with a SAD above any of sixteen samples
-abbrev pub standing : Best → Standing
-standing nothing = record { mode = 0; sad = 4081 }
-standing (at m s) = record { mode = m; sad = s }
-
--- a mode is looked at
-abbrev pub looked : ℕ → Cost → Standing → Standing
-looked m no b = b
-looked m (is d) b = cond (ltb d (b .sad)) (record { mode = m; sad = d }) b
-
--- no SAD of sixteen samples is above 16 * 255
-abbrev pub Small : Cost → Type 0
-Small (is d) = d ≤ 4080
-Small no = Unit {0}
+-- what the code has found, with the samples that it has written
+abbrev pub withSamples : Standing → List ℕ → Choice
+withSamples b l = record { mode = b .mode; sad = b .cost; prediction = l }

@@ -1,10 +1,11 @@
 -- What stands round a block, and the mask that leaves a missing sample without a value (01, "Samples round a block").
 -- Assumes nothing.
-use mathlib.Core.Bool.{Bool, cond}
+use mathlib.Core.Path.{_≡_}
+use mathlib.Core.Bool.{Bool, true, cond}
 use mathlib.Core.List.{List, _++_}
 use Prim.Native.Nat.{ℕ, _/_, _%_, _^_}
 use lib.Dec.{eqb}
-use lib.ListN.{getD, take, drop, replicate}
+use lib.ListN.{length, getD, take, drop, replicate}
 
 -- "They are lent in the order M, A to H, I to L": M,
 abbrev pub cornerOf : List ℕ → List ℕ
@@ -50,3 +51,12 @@ mask n f = record {
   left = sideIf (bitOf f 1) (leftOf n);
   corner = sideIf (bitOf f 2) (cornerOf n);
 }
+
+-- lists that agree wherever the flags f say that a sample is present: "bit 0 A-D, bit 1 I-L, bit 2 M, bit 3 E-H"; E-H count only where A-D
+-- are present too
+pub record AgreeWherePresent (f : ℕ) (n n′ : List ℕ) : Type 0 where
+  pub long : length n ≡ length n′
+  pub above : bitOf f 0 ≡ true → aboveOf n ≡ aboveOf n′
+  pub upper-right : bitOf f 0 ≡ true → bitOf f 3 ≡ true → upperRightOf n ≡ upperRightOf n′
+  pub left : bitOf f 1 ≡ true → leftOf n ≡ leftOf n′
+  pub corner : bitOf f 2 ≡ true → cornerOf n ≡ cornerOf n′

@@ -1,11 +1,11 @@
 // The sixteen samples of a mode, and of all nine modes: row by row, so that the compiler unrolls each direction. The rows come by value:
 // were they lent, each stored sample might have changed them, and the compiler would read and average them again.
 ghost use mathlib.Core.Path.{_≡_};
-ghost use Prim.Native.Nat.{_+_, _≤_};
-ghost use lib.ListN.{length, take, drop};
+ghost use Prim.Native.Nat.{_≤_};
+ghost use lib.ListN.{length};
 ghost use Rattle.lists.specs.Tab.{grid};
 ghost use Rattle.predict.specs.Rules as paper;
-ghost use Rattle.predict.specs.Code.{withCorner, pastCorner, filled, areaOf};
+ghost use Rattle.predict.specs.Code.{withCorner, pastCorner, filled, areaFilled};
 use crate::rules;
 
 fn put_vertical(t: [u8; 9], out: &mut [u8])
@@ -126,32 +126,11 @@ pub(crate) fn put(t: [u8; 9], s: [u8; 5], flags: u8, mode: u8, out: &mut [u8])
 // The samples of all nine modes, one behind the other.
 pub(crate) fn put_all(t: [u8; 9], s: [u8; 5], flags: u8, area: &mut [u8])
     requires { ⌜ length (now area) ≡ 144 ⌝ }
-    ensures { λ r. ⌜ now (area .exit) ≡ areaOf t s flags ⌝ }
+    ensures { λ r. ⌜ now (area .exit) ≡ areaFilled t s flags ⌝ }
 {
     for mode in 0..9 {
         let at = 16 * mode;
         let end = at + 16;
         put(t, s, flags, mode as u8, &mut area[at..end]);
-    }
-}
-
-// The sixteen samples from a place of the area.
-pub(crate) fn taken(area: &[u8], at: usize) -> [u8; 16]
-    requires { ⌜ at + 16 ≤ length (now area) ⌝ }
-    ensures { λ r. ⌜ r ≡ take 16 (drop at (now (area .entry))) ⌝ }
-{
-    let mut part = [0u8; 16];
-    for k in 0..16 {
-        part[k] = area[at + k];
-    }
-    part
-}
-
-pub(crate) fn copy(from: [u8; 16], to: &mut [u8])
-    requires { ⌜ length (now to) ≡ 16 ⌝ }
-    ensures { λ r. ⌜ now (to .exit) ≡ from ⌝ }
-{
-    for k in 0..16 {
-        to[k] = from[k];
     }
 }

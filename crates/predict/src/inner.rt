@@ -5,9 +5,11 @@ ghost use lib.ListN.{length};
 ghost use Rattle.predict.specs.Samples.{mask};
 ghost use Rattle.predict.specs.Rules as paper;
 ghost use Rattle.predict.specs.Entry.{Picks};
-use crate::choice;
+ghost use Rattle.predict.specs.Code.{withSamples};
 use crate::fills;
 use crate::samples;
+use crate::search;
+use choice::inner::Standing;
 
 // The chosen mode, its SAD and its sixteen samples.
 pub struct Choice {
@@ -45,21 +47,33 @@ pub fn fill(neighbours: &[u8], flags: u8, mode: u8, out: &mut [u8])
     fills::put(top, left, flags, mode, out);
 }
 
-// The permitted mode with the least SAD, the lower number on a tie.
-pub fn chosen(neighbours: &[u8], flags: u8, samples: &[u8]) -> Choice
-    requires { ⌜ (length (now neighbours) ≡ 13) × (length (now samples) ≡ 16) ⌝ }
-    ensures { λ r. ⌜ Picks (mask (now (neighbours .entry)) flags) (now (samples .entry)) r ⌝ }
+// The permitted mode with the least SAD, the lower number on a tie; its samples are written.
+pub(crate) fn pick(neighbours: &[u8], flags: u8, samples: &[u8], prediction: &mut [u8]) -> Standing
+    requires { ⌜ (length (now neighbours) ≡ 13) × (length (now samples) ≡ 16) × (length (now prediction) ≡ 16) ⌝ }
+    ensures { λ r. ⌜ Picks (mask (now (neighbours .entry)) flags) (now (samples .entry)) (withSamples r (now (prediction .exit))) ⌝ }
 {
     let rows = samples::resolve(neighbours, flags);
     let top = rows.top;
     let left = rows.left;
     let mut area = [0u8; 144];
     fills::put_all(top, left, flags, &mut area);
-    let best = choice::best(&area, flags, samples);
+    let best = search::best(&area, flags, samples);
     let at = 16 * (best.mode as usize);
+    let end = at + 16;
+    bytes::copy(&area[at..end], prediction);
+    best
+}
+
+// The same by value.
+pub fn chosen(neighbours: &[u8], flags: u8, samples: &[u8]) -> Choice
+    requires { ⌜ (length (now neighbours) ≡ 13) × (length (now samples) ≡ 16) ⌝ }
+    ensures { λ r. ⌜ Picks (mask (now (neighbours .entry)) flags) (now (samples .entry)) r ⌝ }
+{
+    let mut prediction = [0u8; 16];
+    let best = pick(neighbours, flags, samples, &mut prediction);
     Choice {
         mode: best.mode,
-        sad: best.sad,
-        prediction: fills::taken(&area, at),
+        sad: best.cost,
+        prediction,
     }
 }

@@ -3,11 +3,11 @@ ghost use Rattle.predict.specs.Entry.{Predicts, Chooses};
 use refusal::Answer;
 use refusal::Refusal;
 
-mod choice;
 mod fills;
 pub mod inner;
 mod rules;
 mod samples;
+mod search;
 
 // The answer where a mode is chosen: its number and its SAD.
 pub enum Chosen {
@@ -52,8 +52,6 @@ pub fn choose(neighbours: &[u8], flags: u8, samples: &[u8], prediction: &mut [u8
     if 15 < flags {
         return Chosen::Refused(Refusal::Flags(0));
     }
-    let choice = inner::chosen(neighbours, flags, samples);
-    let best = choice.prediction;
-    fills::copy(best, prediction);
-    Chosen::Mode(choice.mode, choice.sad)
+    let best = inner::pick(neighbours, flags, samples, prediction);
+    Chosen::Mode(best.mode, best.cost)
 }

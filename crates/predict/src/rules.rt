@@ -22,7 +22,7 @@ fn avg3(a: u8, b: u8, c: u8) -> u8
 // avg2 of two samples side by side.
 fn two(row: &[u8], k: usize) -> u8
     requires { ⌜ k + 1 < length (now row) ⌝ }
-    ensures { λ r. ⌜ r ≡ paper.avg2 (withCorner (now (row .entry)) k) (withCorner (now (row .entry)) (k + 1)) ⌝ }
+    ensures { λ r. ⌜ r ≡ paper.avg2 (getD (now (row .entry)) k 0) (getD (now (row .entry)) (k + 1) 0) ⌝ }
 {
     avg2(row[k], row[k + 1])
 }
@@ -30,7 +30,7 @@ fn two(row: &[u8], k: usize) -> u8
 // avg3 of three samples side by side.
 fn three(row: &[u8], k: usize) -> u8
     requires { ⌜ k + 2 < length (now row) ⌝ }
-    ensures { λ r. ⌜ r ≡ paper.avg3 (withCorner (now (row .entry)) k) (withCorner (now (row .entry)) (k + 1)) (withCorner (now (row .entry)) (k + 2)) ⌝ }
+    ensures { λ r. ⌜ r ≡ paper.avg3 (getD (now (row .entry)) k 0) (getD (now (row .entry)) (k + 1) 0) (getD (now (row .entry)) (k + 2) 0) ⌝ }
 {
     avg3(row[k], row[k + 1], row[k + 2])
 }
@@ -50,7 +50,7 @@ pub(crate) fn horizontal(s: &[u8], x: usize, y: usize) -> u8
 }
 
 // A byte as a number that sums may grow on.
-pub(crate) fn wide(b: u8) -> u16
+fn wide(b: u8) -> u16
     ensures { λ r. ⌜ (r ≡ b) × (r < 256) ⌝ }
 {
     b as u16
@@ -115,15 +115,10 @@ pub(crate) fn vertical_right(t: &[u8], s: &[u8], x: usize, y: usize) -> u8
     // the paper's z, and 3 more
     let z = 2 * x + 3 - y;
     match z {
-        ..=1 => three(s, y - 2),
+        0 | 1 => three(s, y - 2),
         2 => avg3(s[1], t[0], t[1]),
-        3.. => {
-            if z % 2 == 1 {
-                two(t, x - h)
-            } else {
-                three(t, x - h - 1)
-            }
-        }
+        4 | 6 | 8 => three(t, x - h - 1),
+        _ => two(t, x - h),
     }
 }
 
@@ -139,10 +134,9 @@ pub(crate) fn vertical_left(t: &[u8], x: usize, y: usize) -> u8
     ensures { λ r. ⌜ r ≡ paper.verticalLeft (pastCorner (now (t .entry))) x y ⌝ }
 {
     let k = x + y / 2 + 1;
-    let odd = y % 2;
-    match odd {
-        0 => two(t, k),
-        1.. => three(t, k),
+    match y {
+        0 | 2 => two(t, k),
+        _ => three(t, k),
     }
 }
 
@@ -153,8 +147,9 @@ pub(crate) fn horizontal_up(s: &[u8], x: usize, y: usize) -> u8
     let k = y + x / 2 + 1;
     let z = x + 2 * y;
     match z {
-        ..=4 => { if z % 2 == 0 { two(s, k) } else { three(s, k) } }
+        0 | 2 | 4 => two(s, k),
+        1 | 3 => three(s, k),
         5 => avg3(s[3], s[4], s[4]),
-        6.. => s[4],
+        _ => s[4],
     }
 }

@@ -2,29 +2,20 @@
 use mathlib.Core.Path.{_≡_}
 use mathlib.Core.Bool.{cond, _||_}
 use mathlib.Core.List.{List, [], _∷_, _++_}
-use Prim.Native.Nat.{ℕ, _+_, _-_, _/_, _%_}
+use Prim.Native.Nat.{ℕ, _+_, _-_, _/_, _%_, _^_}
 use lib.Dec.{eqb, leb}
 use lib.IntN.{ℤ, pos, negsuc, natAbs}
-use lib.ListN.{length, getD, replicate}
+use lib.ListN.{length, replicate}
 use Rattle.lists.specs.Parts.{parts}
 use Rattle.printing.specs.declared.Text.{Text}
-
--- the powers of ten from the twentieth digit of a number to its last
-abbrev pub powers : List ℕ
-powers =
-    10000000000000000000 ∷ 1000000000000000000 ∷ 100000000000000000 ∷ 10000000000000000
-    ∷ 1000000000000000 ∷ 100000000000000 ∷ 10000000000000 ∷ 1000000000000
-    ∷ 100000000000 ∷ 10000000000 ∷ 1000000000 ∷ 100000000
-    ∷ 10000000 ∷ 1000000 ∷ 100000 ∷ 10000
-    ∷ 1000 ∷ 100 ∷ 10 ∷ 1 ∷ []
 
 -- a digit stands where the number reaches its power of ten, and the last one always
 unfoldable pub digitAt : ℕ → ℕ → List ℕ
 digitAt n power = cond (leb power n || eqb power 1) ((48 + n / power % 10) ∷ []) []
 
--- a number of 64 bits in decimal
+-- a number of 64 bits in decimal, from its twentieth digit to its last
 unfoldable pub decimalOf : ℕ → List ℕ
-decimalOf n = parts 20 (λ k. digitAt n (getD powers k 0))
+decimalOf n = parts 20 (λ k. digitAt n (10 ^ (19 - k)))
 
 -- a minus sign stands before a negative number
 abbrev pub signOf : ℤ → List ℕ

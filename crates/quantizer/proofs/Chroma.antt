@@ -4,18 +4,16 @@
 --     chroma-quantizer-refuses-exactly-if
 -- Assumes nothing.
 use mathlib.Core.Path.{_≡_, sym, ap, _∙_}
-use mathlib.Core.Bool.{Bool, true, false}
-use mathlib.Core.List.{List}
+use mathlib.Core.Bool.{true, false}
 use Prim.Native.Nat.{ℕ, _+_, _-_, _≤_, _<_}
 use native.Mathlib.Omega.{arith}
 use borrow.Author.Tests.{le-ltb, le-leb, lt-leb}
 use lib.Dec.{T, eqb, eqb→eq}
 use lib.IntN.{ℤ, pos, negsuc}
 use lib.ListN.{getD}
-use Rattle.lists.specs.Chain.{Verdict, pass, stop, chain}
+use Rattle.lists.specs.Chain.{pass, stop, chain, ExactlyIf}
 use Rattle.lists.specs.Every.{every}
 use Rattle.lists.proofs.Every.{every-at}
-use Rattle.lists.proofs.Chain.{ExactlyIf}
 use Rattle.refusal.proofs.Same.{says-exactly-if}
 use Rattle.refusal.specs.declared.Refusal.the-variants as refusal
 use Rattle.whole.specs.Range.{inside}

@@ -5,14 +5,13 @@
 --     same-built                         an answer is known by what it says and the number that comes back
 -- Assumes nothing.
 use mathlib.Core.Path.{_≡_, refl, sym, ap, _∙_}
-use mathlib.Core.List.{[], _∷_}
 use Prim.Native.Nat.{ℕ, _≤_, _<_, zero-le}
 use mathlib.Core.Bool.{Bool, true, false}
 use native.Mathlib.Omega.{arith}
 use borrow.Author.Tests.{le-leb, lt-leb, leb-true, leb-false}
 use lib.Dec.{leb}
-use Rattle.lists.specs.Chain.{pass, stop, chain}
-use Rattle.lists.proofs.Chain.{ExactlyIf, holds-new}
+use Rattle.lists.specs.Chain.{pass, stop, chain, ExactlyIf}
+use Rattle.lists.proofs.Chain.{holds-new}
 use Rattle.refusal.proofs.Same.{says, says-same, says-exactly-if}
 use Rattle.refusal.specs.declared.Refusal.{Refusal}
 use Rattle.refusal.specs.declared.Refusal.the-variants as refusal

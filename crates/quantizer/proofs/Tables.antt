@@ -1,22 +1,23 @@
 -- The rules of the tables, each one test that the checker computes over the whole table.
 --     zigzag-permutes     the zigzag visits each of the sixteen places once: step and place undo each other
---     classes             the class table goes by the parity of row and column
---     classes-turn        and does not tell rows from columns
+--     classes             the code's pattern of classes goes by the parity of row and column
+--     classes-turn        and the rule does not tell rows from columns
 --     tables-agree        MF times V times 16, 25 or 20 is 2^21, give or take 277
 --     mf-small, v-small   the greatest entries
 -- Assumes nothing.
 use mathlib.Core.Path.{_≡_, refl, sym, ap, _∙_}
-use mathlib.Core.Bool.{Bool, _&&_}
+use mathlib.Core.Bool.{Bool}
 use mathlib.Core.List.{List, [], _∷_}
 use Prim.Native.Nat.{ℕ, _+_, _*_, _^_, _<_, _≤_}
 use native.Mathlib.Omega.{arith}
 use lib.Dec.{T, eqb, ltb, leb, eqb→eq, ltb→lt, leb→le}
 use lib.ListN.{getD}
 use Rattle.lists.specs.Every.{every}
+use Rattle.lists.specs.Tab.{tab}
 use Rattle.lists.specs.Total.{distance}
 use Rattle.lists.proofs.Every.{every-at}
 use Rattle.lists.proofs.Turned.{turnedPlace}
-use Rattle.quantizer.specs.Tables.{mfTable, vTable, mfOf, vOf, columnOf, zigzagOf, stepOf, classAtPlace}
+use Rattle.quantizer.specs.Tables.{mfTable, vTable, mfOf, vOf, columnOf, ofClass, zigzagOf, stepOf, classAtPlace}
 use Rattle.quantizer.specs.declared.Class.{Class}
 use Rattle.quantizer.specs.declared.Class.the-variants.{A, B, C}
 
@@ -56,15 +57,18 @@ column-again C = refl
 same-class : (c d : Class) → columnOf c ≡ columnOf d → c ≡ d
 same-class c d e = sym (column-again c) ∙ ap inColumn e ∙ column-again d
 
--- the table in the code
-abbrev pub classTable : List Class
-classTable = A ∷ C ∷ A ∷ C ∷ C ∷ B ∷ C ∷ B ∷ A ∷ C ∷ A ∷ C ∷ C ∷ B ∷ C ∷ B ∷ []
+-- the code's pattern of sixteen goes by the parity of row and column: the checker computes that
+pub classes : {X : Type 0} (a b c : X) → a ∷ c ∷ a ∷ c ∷ c ∷ b ∷ c ∷ b ∷ a ∷ c ∷ a ∷ c ∷ c ∷ b ∷ c ∷ b ∷ [] ≡ tab 16 (λ place. ofClass a b c (classAtPlace place))
+unfolding tab
+classes a b c = refl
 
-pub classes : (place : ℕ) → place < 16 → getD classTable place A ≡ classAtPlace place
-classes place h =
-    same-class _ _ (eqb→eq _ _ (every-at 16 (λ i. eqb (columnOf (getD classTable i A)) (columnOf (classAtPlace i))) tt place h))
+-- of f of each class, that of a class is f of it
+pub of-class : {X : Type 0} (f : Class → X) (class : Class) → ofClass (f A) (f B) (f C) class ≡ f class
+of-class f A = refl
+of-class f B = refl
+of-class f C = refl
 
--- the class table is its own transpose
+-- the rule is its own transpose
 pub classes-turn : (place : ℕ) → place < 16 → classAtPlace place ≡ classAtPlace (turnedPlace 4 place)
 classes-turn place h =
     same-class _ _ (eqb→eq _ _ (every-at 16 (λ i. eqb (columnOf (classAtPlace i)) (columnOf (classAtPlace (turnedPlace 4 i)))) tt place h))

@@ -1,5 +1,5 @@
 -- The contracts of `quantizer` determine what its functions answer. Assumes nothing.
-use mathlib.Core.Path.{_≡_, refl, sym, _∙_}
+use mathlib.Core.Path.{refl, sym, _∙_}
 use Rattle.unique.specs.Unique.{Unique}
 use Rattle.refusal.proofs.Same.{says-same}
 use Rattle.quantizer.proofs.Range.{same-built}
@@ -11,16 +11,12 @@ use Rattle.quantizer.proofs.Quantizer.number.Kinds as quantizer-number
 use Rattle.quantizer.proofs.Quantizer.number.Reads as quantizer-number-reads
 use Rattle.quantizer.proofs.Quantizer.period.Kinds as quantizer-period
 use Rattle.quantizer.proofs.Quantizer.period.Reads as quantizer-period-reads
-use Rattle.quantizer.proofs.Quantizer.remainder.Kinds as quantizer-remainder
-use Rattle.quantizer.proofs.Quantizer.remainder.Reads as quantizer-remainder-reads
 use Rattle.quantizer.proofs.Quantizer.mf.Kinds as quantizer-mf
 use Rattle.quantizer.proofs.Quantizer.mf.Reads as quantizer-mf-reads
 use Rattle.quantizer.proofs.Quantizer.v.Kinds as quantizer-v
 use Rattle.quantizer.proofs.Quantizer.v.Reads as quantizer-v-reads
-use Rattle.quantizer.proofs.inner.column.Kinds as column
-use Rattle.quantizer.proofs.inner.column.Reads as column-reads
-use Rattle.quantizer.proofs.inner.class_at.Kinds as class-at
-use Rattle.quantizer.proofs.inner.class_at.Reads as class-at-reads
+use Rattle.quantizer.proofs.inner.by_class.Kinds as by-class
+use Rattle.quantizer.proofs.inner.by_class.Reads as by-class-reads
 use Rattle.quantizer.proofs.inner.zigzag.Kinds as zigzag
 use Rattle.quantizer.proofs.inner.zigzag.Reads as zigzag-reads
 use Rattle.quantizer.proofs.inner.step.Kinds as step
@@ -35,20 +31,14 @@ quantizer-number-unique κs a x y e f p q = (p ∙ sym q, refl)
 pub quantizer-period-unique : Unique 0 quantizer-period.ps quantizer-period.r quantizer-period-reads.Learnt (Unit {0}) (λ κs e. tt)
 quantizer-period-unique κs a x y e f p q = (p ∙ sym q, refl)
 
-pub quantizer-remainder-unique : Unique 0 quantizer-remainder.ps quantizer-remainder.r quantizer-remainder-reads.Learnt (Unit {0}) (λ κs e. tt)
-quantizer-remainder-unique κs a x y e f p q = (p ∙ sym q, refl)
-
 pub quantizer-mf-unique : Unique 0 quantizer-mf.ps quantizer-mf.r quantizer-mf-reads.Learnt (Unit {0}) (λ κs e. tt)
 quantizer-mf-unique κs a x y e f p q = (p ∙ sym q, refl)
 
 pub quantizer-v-unique : Unique 0 quantizer-v.ps quantizer-v.r quantizer-v-reads.Learnt (Unit {0}) (λ κs e. tt)
 quantizer-v-unique κs a x y e f p q = (p ∙ sym q, refl)
 
-pub column-unique : Unique 0 column.ps column.r column-reads.Learnt (Unit {0}) (λ κs e. tt)
-column-unique κs a x y e f p q = (p ∙ sym q, refl)
-
-pub class-at-unique : Unique 0 class-at.ps class-at.r class-at-reads.Learnt (Unit {0}) (λ κs e. tt)
-class-at-unique κs a x y e f p q = (p ∙ sym q, refl)
+pub by-class-unique : Unique 0 by-class.ps by-class.r by-class-reads.Learnt (Unit {0}) (λ κs e. tt)
+by-class-unique κs a x y e f p q = (p ∙ sym q, refl)
 
 pub zigzag-unique : Unique 0 zigzag.ps zigzag.r zigzag-reads.Learnt (Unit {0}) (λ κs e. tt)
 zigzag-unique κs a x y e f p q = (p .0 ∙ sym (q .0), refl)

@@ -4,13 +4,14 @@ use mathlib.Core.Bool.{cond}
 use mathlib.Core.List.{List, [], _∷_}
 use Prim.Native.Nat.{ℕ, _-_}
 use lib.Dec.{ltb, leb}
-use lib.IntN.{ℤ, pos, negsuc, _+ℤ_}
+use lib.IntN.{ℤ, pos, _+ℤ_}
 use lib.ListN.{getD}
 use Rattle.lists.specs.Chain.{Test, test, chain, written}
 use Rattle.refusal.specs.Number.{Says}
 use Rattle.refusal.specs.declared.Refusal.{Refusal}
 use Rattle.refusal.specs.declared.Refusal.the-variants as refusal
 use Rattle.whole.specs.Clip.{clip}
+use Rattle.whole.specs.Notation.{minus}
 use Rattle.whole.specs.Range.{inside}
 use Rattle.quantizer.specs.Range.{highest, said, qpOf}
 use Rattle.quantizer.specs.declared.Built.{Built}
@@ -29,7 +30,7 @@ chromaOf qp offset = foldedOf (clip highest (pos qp +ℤ offset))
 
 -- QUANTIZER, place 0, exactly if "QP above 51, or offset out of range"
 abbrev pub chromaTests : ℕ → ℤ → List (Test Refusal)
-chromaTests qp offset = test (leb qp highest) (refusal.Quantizer 0) ∷ test (inside (negsuc 11) (pos 12) offset) (refusal.Quantizer 0) ∷ []
+chromaTests qp offset = test (leb qp highest) (refusal.Quantizer 0) ∷ test (inside (minus 12) (pos 12) offset) (refusal.Quantizer 0) ∷ []
 
 -- the chroma quantizer, or the refusal
 pub record ChromaBuilds (qp : ℕ) (offset : ℤ) (b : Built) : Type 0 where

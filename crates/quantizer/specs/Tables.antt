@@ -21,6 +21,12 @@ classAt row column = cond (even row && even column) A (cond (odd row && odd colu
 abbrev pub classAtPlace : ℕ → Class
 classAtPlace place = classAt (place / 4) (place % 4)
 
+-- of three, one for each class, that of a class
+abbrev pub ofClass : {X : Type 0} → X → X → X → Class → X
+ofClass a b c A = a
+ofClass a b c B = b
+ofClass a b c C = c
+
 -- the paper's table, a row for each remainder r: "MF a, b, c (document 003)"
 abbrev pub mfTable : List ℕ
 mfTable =
@@ -43,9 +49,7 @@ vTable =
 
 -- where a class stands in a row
 abbrev pub columnOf : Class → ℕ
-columnOf A = 0
-columnOf B = 1
-columnOf C = 2
+columnOf = ofClass 0 1 2
 
 abbrev pub mfOf : ℕ → Class → ℕ
 mfOf r class = getD mfTable (3 * r + columnOf class) 0

@@ -1,34 +1,16 @@
 // The tables of places: position classes and the zigzag.
 ghost use mathlib.Core.Path.{_≡_};
 ghost use Prim.Native.Nat.{_<_};
-ghost use Rattle.quantizer.specs.Tables.{columnOf, classAtPlace, zigzagOf, stepOf};
+ghost use Rattle.lists.specs.Tab.{tab};
+ghost use Rattle.quantizer.specs.Tables.{columnOf, ofClass, classAtPlace, zigzagOf, stepOf};
 use crate::Class;
-
-const CLASS: [Class; 16] = [
-    Class::A,
-    Class::C,
-    Class::A,
-    Class::C,
-    Class::C,
-    Class::B,
-    Class::C,
-    Class::B,
-    Class::A,
-    Class::C,
-    Class::A,
-    Class::C,
-    Class::C,
-    Class::B,
-    Class::C,
-    Class::B,
-];
 
 const ZIGZAG: [usize; 16] = [0, 1, 4, 8, 5, 2, 3, 6, 9, 12, 13, 10, 7, 11, 14, 15];
 
 const STEP: [usize; 16] = [0, 1, 5, 6, 2, 4, 7, 12, 3, 8, 11, 13, 9, 10, 14, 15];
 
 // The column of a class in the tables MF and V.
-pub fn column(class: Class) -> u8
+pub(crate) fn column(class: Class) -> u8
     ensures { λ r. ⌜ r ≡ columnOf class ⌝ }
 {
     match class {
@@ -38,12 +20,11 @@ pub fn column(class: Class) -> u8
     }
 }
 
-// The class of a raster place.
-pub fn class_at(place: usize) -> Class
-    requires { ⌜ place < 16 ⌝ }
-    ensures { λ r. ⌜ r ≡ classAtPlace place ⌝ }
+// Of three numbers, one for each class, those of the sixteen raster places.
+pub fn by_class(a: u32, b: u32, c: u32) -> [u32; 16]
+    ensures { λ r. ⌜ r ≡ tab 16 (λ place. ofClass a b c (classAtPlace place)) ⌝ }
 {
-    CLASS[place]
+    [a, c, a, c, c, b, c, b, a, c, a, c, c, b, c, b]
 }
 
 // The raster place that the zigzag visits at a step.

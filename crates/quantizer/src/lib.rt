@@ -56,7 +56,7 @@ impl Quantizer {
         self.qp / 6
     }
 
-    pub fn remainder(self) -> u8
+    fn remainder(self) -> u8
         ensures { λ r. ⌜ r ≡ remainderOf (self .qp) ⌝ }
     {
         self.qp % 6

@@ -20,7 +20,7 @@ use lib.Seq.{take-at, getD-append-add, getD-take, getD-drop, length-take-le}
 use mir.Syntax.{w16}
 use mir.Val.{ofZ, toZ, SFits}
 use mir.ValLaws.{toZ-ofZ}
-use Rattle.lists.specs.Chain.{Verdict, pass, chain}
+use Rattle.lists.specs.Chain.{pass, chain}
 use Rattle.lists.proofs.Chain.{holds-new}
 use Rattle.lists.specs.Fold.{fold}
 use Rattle.lists.specs.Parts.{parts}
@@ -34,7 +34,7 @@ use Rattle.record.specs.Faults.{formOf, stepped, onward, walkOf, walkSai
 use Rattle.record.specs.Kinds.{lengthOf, inFours, known, kindOf, lengthKnown}
 use Rattle.record.specs.Modes.{packed, unpaired}
 use Rattle.record.specs.Numbers.{bytesOf, numberAt, levelBytes}
-use Rattle.record.specs.Records.{summed, sumHolds, headLength, headOf, headMark, frontWith, recordWith, levelOf, frontOf, recordOf, numberIn, qpIn, modeIn, levelIn, levelsIn, lengthIn, firstIn, recordAt, recordPlace}
+use Rattle.record.specs.Records.{summed, sumHolds, headLength, headOf, headMark, frontWith, recordWith, levelWith, frontOf, recordOf, numberIn, qpIn, modeIn, levelIn, levelsIn, lengthIn, firstIn, recordAt, recordPlace}
 use Rattle.record.specs.Sum.{recordSum}
 use Rattle.record.specs.declared.Form.the-variants.{Fine}
 use Rattle.record.specs.declared.Form.{Form}
@@ -194,7 +194,7 @@ module _ (kind : Kind) (number : ℕ) (more : List ℕ) (levels : List ℤ) wher
         ∙ number-level levels i (omega (arith, long))
         )
 
-    pub level-with : ((k : ℕ) → SFits w16 (getD levels k (pos 0))) → (i : ℕ) → i < kind .levels → levelOf kind i (recordWith kind number more levels) ≡ getD levels i (pos 0)
+    pub level-with : ((k : ℕ) → SFits w16 (getD levels k (pos 0))) → (i : ℕ) → i < kind .levels → levelWith kind i (recordWith kind number more levels) ≡ getD levels i (pos 0)
     level-with small i h = ap (toZ w16) (number-in i h) ∙ toZ-ofZ w16 (getD levels i (pos 0)) (small i)
 
 -- the levels stood in their place already

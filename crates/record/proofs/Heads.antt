@@ -12,12 +12,11 @@ use Prim.Native.Nat.{ℕ, _<_, _≤_}
 use borrow.Author.Tests.{eq-eqb, ne-eqb, le-leb, lt-leb, leb-true}
 use lib.Dec.{leb}
 use lib.ListN.{length, take}
-use Rattle.lists.specs.Chain.{pass, stop, chain}
-use Rattle.lists.proofs.Chain.{ExactlyIf, chain-exactly-if, holds-new}
+use Rattle.lists.specs.Chain.{pass, stop, chain, ExactlyIf}
+use Rattle.lists.proofs.Chain.{chain-exactly-if, holds-new}
 use Rattle.lists.proofs.Every.{both-true}
 use Rattle.refusal.proofs.Same.{says-same, says-exactly-if}
 use Rattle.refusal.specs.declared.Refusal.the-variants as refusal
-use Rattle.refusal.specs.declared.Refusal.{Refusal}
 use Rattle.record.specs.Entry.{dimension, sizeHolds, widthAt, heightAt, rowsAt, headTests, said, widthOf, heightOf, rowsOf, longOf, ReadsHead}
 use Rattle.record.specs.Numbers.{numberAt}
 use Rattle.record.specs.Records.{headMark, headLength, sumHolds}

@@ -16,8 +16,8 @@ use native.Mathlib.Omega.{arith}
 use borrow.Author.Tests.{le-leb, eqb-true, eqb-false}
 use lib.Dec.{eqb}
 use lib.ListN.{length, take, drop, length-drop}
-use Rattle.lists.specs.Chain.{Test, test, Verdict, pass, stop, chain}
-use Rattle.lists.proofs.Chain.{RefusedWith, chain-exactly-if}
+use Rattle.lists.specs.Chain.{Test, test, Verdict, pass, stop, chain, RefusedWith}
+use Rattle.lists.proofs.Chain.{chain-exactly-if}
 use Rattle.refusal.specs.declared.Refusal.{Refusal}
 use Rattle.refusal.specs.declared.Refusal.the-variants as refusal
 use Rattle.record.specs.Faults.{formTests, walkOf, walkSaid}

@@ -9,7 +9,7 @@
 --     walk-breaks-exactly-if     it stops at a record exactly if this one is faulty and none before it is
 --     form-passes-exactly-if, form-refuses-exactly-if     what is sent back: the first fault, or that bytes are left
 --     place-none, place-more, place-next     where the first record begins, and the next
---     end-known, record-sound, record-inside, Lent, lent, lent-fours     what code needs to lend record m of a walk that came through
+--     end-known, record-sound, Lent, lent, lent-fours     what code needs to lend record m of a walk that came through
 -- Assumes nothing.
 use mathlib.Core.Path.{_≡_, refl, sym, ap, subst, _∙_}
 use mathlib.Core.List.{List}
@@ -20,9 +20,9 @@ use native.Mathlib.Omega.{arith}
 use borrow.Author.Tests.{le-leb, lt-leb, leb-true, leb-false}
 use lib.ListN.{length, take, drop, length-drop}
 use lib.Seq.{getD-drop, length-take-le}
-use Rattle.lists.specs.Chain.{Verdict, pass, stop, chain}
+use Rattle.lists.specs.Chain.{Verdict, pass, stop, chain, RefusedWith}
 use Rattle.lists.specs.Fold.{fold}
-use Rattle.lists.proofs.Chain.{RefusedWith, pass-not-stop, chain-exactly-if}
+use Rattle.lists.proofs.Chain.{pass-not-stop, chain-exactly-if}
 use Rattle.lists.proofs.Fold.{fold-more}
 use Rattle.refusal.specs.declared.Refusal.{Refusal}
 use Rattle.record.specs.Faults.{formTests, formed, formOf, stepped, onward, walkOf, refusalOf, surplus, leftTests, walkSaid}
@@ -248,11 +248,6 @@ module _ (file : List ℕ) where
 
       pub record-sound : (m : ℕ) → m < n → FineForm m (drop (recordPlace m file start) file)
       record-sound m h = passed-sound m (drop (recordPlace m file start) file) (whole-only n came m h)
-
-      pub record-inside : (m : ℕ) → m < n → recordPlace (m + 1) file start ≤ length file
-      record-inside m h =
-          let s = record-sound m h in
-          omega (arith, place-more m, s .some, s .room, length-drop (recordPlace m file start) file)
 
       -- at its place, and as long as its mark says
       pub lent : (m : ℕ) → m < n → {place : ℕ} → place ≡ recordPlace m file start → {long : ℕ} → long ≡ lengthFrom place file → Lent place long

@@ -1,16 +1,21 @@
 -- Heads, marks and cut files at which a faulty definition would answer otherwise, computed from the definitions that the contracts cite. Assumes nothing.
 use mathlib.Core.Path.{_≡_, refl}
-use mathlib.Core.List.{[], _∷_}
-use Prim.Native.Nat.{_+_, _*_}
-use Rattle.lists.specs.Chain.{chain}
+use mathlib.Core.List.{List, [], _∷_}
+use Prim.Native.Nat.{ℕ, _+_, _*_}
+use lib.IntN.{pos}
+use lib.ListN.{replicate, set}
+use Rattle.lists.specs.Chain.{pass, stop, chain}
 use Rattle.lists.specs.Fold.{fold}
+use Rattle.lists.specs.Tab.{tab}
 use Rattle.refusal.specs.Number.{number}
 use Rattle.record.specs.Entry.{headTests, sizeHolds}
-use Rattle.record.specs.Faults.{formOf, walkOf}
+use Rattle.record.specs.Faults.{formTests, formOf, walkOf}
 use Rattle.record.specs.Kinds.{lengthOf, inFours, kindOf, recordLength}
-use Rattle.record.specs.Records.{headOf, summed, sumHolds, lengthIn}
+use Rattle.record.specs.Modes.{packed}
+use Rattle.record.specs.Numbers.{levelBytes}
+use Rattle.record.specs.Records.{headOf, recordOf, recordWith, summed, sumHolds, lengthIn}
 use Rattle.record.specs.Sum.{sumOf}
-use Rattle.record.specs.declared.Fault.the-variants.{CutMark, Mark, CutRest}
+use Rattle.record.specs.declared.Fault.the-variants.{CutMark, Mark, CutRest, Number, Sum}
 use Rattle.record.specs.declared.Walk.the-variants.{Broken}
 
 -- "1 to 128 macroblocks": numbers at the ends and one beyond, and of a file without a head
@@ -35,3 +40,17 @@ pub cuts :
     ≡ Broken CutMark 1 ∷ Broken Mark 1 ∷ Broken CutRest 1 ∷ Broken CutMark 1 ∷ []
 unfolding walkOf fold formOf kindOf lengthIn
 cuts = refl
+
+-- a record of DC blocks and no levels, and with its last byte, the low one of its sum, changed
+abbrev plain : List ℕ
+plain = recordOf 0 28 (replicate 16 2) (replicate 256 (pos 0))
+
+abbrev miscounted : List ℕ
+miscounted = set plain 526 0
+
+-- number and sum are tested, and the number first
+pub number-before-sum :
+    chain (formTests 0 plain) ∷ chain (formTests 1 plain) ∷ chain (formTests 0 miscounted) ∷ chain (formTests 1 miscounted) ∷ []
+    ≡ pass ∷ stop Number ∷ stop Sum ∷ stop Number ∷ []
+unfolding recordOf recordWith summed packed levelBytes tab sumOf sumHolds kindOf lengthIn
+number-before-sum = refl

@@ -42,8 +42,8 @@ unfoldable pub recordWith : Kind → ℕ → List ℕ → List ℤ → List ℕ
 recordWith kind number more levels = summed (frontWith kind number more ++ levelBytes levels)
 
 -- level i of a record of a kind
-abbrev pub levelOf : Kind → ℕ → List ℕ → ℤ
-levelOf kind i bytes = levelAt (kind .front + 2 * i) bytes
+abbrev pub levelWith : Kind → ℕ → List ℕ → ℤ
+levelWith kind i bytes = levelAt (kind .front + 2 * i) bytes
 
 -- what stands before a macroblock's levels: "4D 42, number (2), QP (1), modes (8)"
 unfoldable pub frontOf : ℕ → ℕ → List ℕ → List ℕ
@@ -66,7 +66,7 @@ modeIn block bytes = unpaired block (getD bytes (5 + block / 2) 0)
 
 -- level k of a block, in zigzag order
 abbrev pub levelIn : ℕ → ℕ → List ℕ → ℤ
-levelIn block k bytes = levelOf inFours (16 * block + k) bytes
+levelIn block k bytes = levelWith inFours (16 * block + k) bytes
 
 -- the sixteen levels of a block
 unfoldable pub levelsIn : ℕ → List ℕ → List ℤ

@@ -6,10 +6,9 @@ use native.Mathlib.Omega.{arith}
 use borrow.Author.Tests.{eq-eqb, ne-eqb, le-leb, lt-leb, eqb-true, leb-true}
 use lib.IntN.{ℤ, pos, negsuc}
 use lib.ListN.{length}
-use Rattle.lists.specs.Chain.{chain, pass, stop}
-use Rattle.lists.proofs.Chain.{ExactlyIf, chain-exactly-if, holds-new}
+use Rattle.lists.specs.Chain.{chain, pass, stop, ExactlyIf}
+use Rattle.lists.proofs.Chain.{chain-exactly-if, holds-new}
 use Rattle.whole.specs.Bounds.{Each}
-use Rattle.whole.specs.Range.{firstOutside}
 use Rattle.whole.proofs.Range.{outside-le, none-each, each-none}
 use Rattle.refusal.specs.Number.{said}
 use Rattle.refusal.specs.declared.Answer.{Answer}

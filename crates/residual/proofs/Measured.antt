@@ -1,5 +1,5 @@
--- The starred pieces about a block's levels (01, "Measured pieces"), and witnesses for the order of the tests, computed from the
--- definitions that the contracts cite. Assumes nothing.
+-- Witnesses of the must-fail edits about a block's levels, computed from the definitions that the contracts cite (the table of all starred
+-- pieces is in crate `pieces`). Assumes nothing.
 use mathlib.Core.Path.{_≡_, refl}
 use mathlib.Core.List.{List, [], _∷_}
 use Prim.Native.Nat.{ℕ}
@@ -33,15 +33,6 @@ grey = replicate 16 128
 
 abbrev answered : List ℤ → List ℕ
 answered l = number (chain (rebuildTests 0 grey l grey)) ∷ place (chain (rebuildTests 0 grey l grey)) ∷ []
-
--- "Level 3276 at QP 0, class a: 32760, accepted; 3277: refused (6)"
-pub range-measured : answered (alone (pos 3276)) ≡ 0 ∷ 0 ∷ []
-unfolding inZigzag inPlaces rescaled scaledBy firstOutside first inside tab
-range-measured = refl
-
-pub range-refused : answered (alone (pos 3277)) ≡ 6 ∷ 0 ∷ []
-unfolding inZigzag inPlaces rescaled scaledBy firstOutside first inside tab
-range-refused = refl
 
 -- LEVEL comes before RANGE: level 0 rescales too far, and level 1 is no level
 pub level-before-range : answered (pos 3277 ∷ pos 40000 ∷ replicate 14 (pos 0)) ≡ 5 ∷ 1 ∷ []

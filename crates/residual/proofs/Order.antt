@@ -1,15 +1,14 @@
 -- Laws of the zigzag order.
---     places-again, zigzag-again     the two orders undo each other
+--     places-again     the zigzag order and back
 --     in-zigzag-each, places-each, zigzag-each       a bound of each number, from the one order to the other
 -- Assumes nothing.
-use mathlib.Core.Path.{_≡_, refl, sym, ap, subst, _∙_}
+use mathlib.Core.Path.{_≡_, ap, subst, _∙_}
 use mathlib.Core.List.{List}
 use Prim.Native.Nat.{ℕ, _<_}
 use lib.IntN.{ℤ, pos}
 use lib.ListN.{length, getD}
-use Rattle.lists.specs.Tab.{tab}
 use Rattle.lists.proofs.Tab.{length-tab, getD-tab, tab-of}
-use Rattle.whole.specs.Bounds.{Within, Each}
+use Rattle.whole.specs.Bounds.{Each}
 use Rattle.whole.proofs.Lists.{each-tab}
 use Rattle.whole.proofs.Steps.{each-at}
 use Rattle.quantizer.specs.Tables.{zigzagOf, stepOf}
@@ -38,10 +37,6 @@ module _ (l : List ℤ) where
     pub places-again : inPlaces (inZigzag l) ≡ l
     unfolding inPlaces
     places-again = tab-of 16 (λ place. getD (inZigzag l) (stepOf place) (pos 0)) l (pos 0) long step-at
-
-    pub zigzag-again : inZigzag (inPlaces l) ≡ l
-    unfolding inZigzag
-    zigzag-again = tab-of 16 (λ step. getD (inPlaces l) (zigzagOf step) (pos 0)) l (pos 0) long place-at
 
 pub places-each : (B : ℕ) (l : List ℤ) → Each B l → Each B (inPlaces l)
 unfolding inPlaces

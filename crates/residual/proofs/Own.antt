@@ -1,40 +1,44 @@
--- What the coder gives fits 16 bits and rescales into 16 bits, and how the DC path's AC levels stand to a block's levels.
+-- What the coder gives fits 16 bits and rescales into 16 bits.
 --     own-levels-in-range     any residual in range, any quantizer: levels up to 1632, rescaled numbers up to 25978
 --     own-numbers             levels in zigzag order rescale to what those in raster order do
 --     own-numbers-fit         so RANGE finds none
 --     own-levels-pass         and `rebuild` accepts them
---     dc-path                 the AC levels of a DC-path block are levels 1 to 15; its DC is coefficient 0, in the range of the DC paths
+--     ac-numbers, own-ac-pass     levels 1 to 15 with any DC of 16 bits: the block's own numbers, place 0 replaced; and `rebuild_with_dc` accepts them
 -- Assumes nothing.
 use mathlib.Core.Path.{_≡_, refl, sym, ap, subst, _∙_}
+use mathlib.Core.Bool.{true}
 use mathlib.Core.List.{List, [], _∷_}
-use Prim.Native.Nat.{ℕ, _+_, _-_, _*_, _/_, _^_, _<_, _≤_}
+use Prim.Native.Nat.{ℕ, zero, suc, _+_, _-_, _*_, _/_, _^_, _<_, _≤_}
 use native.Mathlib.Nat.{mul-le-mul, mul-le-mul-left, div-mul-le-self}
 use native.Mathlib.Omega.{arith}
 use lib.Dec.{T, ltb, leb, ltb→lt, leb→le}
-use lib.IntN.{ℤ, pos, negsuc, natAbs, _*ℤ_}
-use lib.ListN.{length, getD, drop, set}
+use lib.IntN.{ℤ, pos, natAbs, _*ℤ_}
+use lib.ListN.{length, getD, drop, set, length-drop}
 use lib.Pow.{pow-add}
-use Rattle.lists.specs.Every.{every}
 use Rattle.lists.specs.Tab.{tab}
 use Rattle.lists.specs.Chain.{chain, pass}
 use Rattle.lists.proofs.Chain.{chain-passed}
 use Rattle.lists.proofs.Every.{every-at}
 use Rattle.lists.proofs.Tab.{getD-tab, length-tab}
 use Rattle.whole.specs.Bounds.{Within, Each}
+use Rattle.whole.specs.Notation.{minus}
+use Rattle.whole.specs.Range.{inside}
 use Rattle.whole.proofs.Bound.{abs-mul}
 use Rattle.whole.proofs.Lists.{each-tab, each-less}
+use Rattle.whole.proofs.Range.{within-inside, all-inside}
+use Rattle.whole.proofs.Steps.{each-at}
 use Rattle.transform.specs.Forward.{forward}
 use Rattle.transform.proofs.Bounds.{mostOf, forward-within}
 use Rattle.quantizer.specs.Range.{highest, periodOf, remainderOf}
-use Rattle.quantizer.specs.Tables.{mfTable, vTable, mfOf, vOf, columnOf, classAtPlace}
+use Rattle.quantizer.specs.Tables.{mfOf, vOf, classAtPlace, zigzagOf}
 use Rattle.quantizer.specs.declared.Class.{Class}
 use Rattle.quantizer.specs.declared.Class.the-variants as class
 use Rattle.quantizer.proofs.Tables.{v-small}
 use Rattle.residual.specs.Levels.{quantized, levelsOf}
-use Rattle.residual.specs.Quantize.{signed, levelBy, levelOf, fOf, qOf}
+use Rattle.residual.specs.Quantize.{levelBy, levelOf, fOf, qOf}
 use Rattle.residual.specs.Rescale.{scaledBy, mfAt, vAt, rescaled}
 use Rattle.residual.proofs.Quantize.{third-small, level-within, size-signed}
-use Rattle.residual.specs.Entry.{rebuildTests, levelTests, rangeTest, firstWide}
+use Rattle.residual.specs.Entry.{rebuildTests, withDcTests, levelTests, rangeTest, firstWide}
 use Rattle.residual.specs.Order.{inZigzag, inPlaces}
 use Rattle.residual.specs.Rebuild.{rescaledOf, rescaledWithDc}
 use Rattle.residual.proofs.Entry.{wide-none, accepts-all, range-fine}
@@ -100,6 +104,26 @@ unfolding rescaled inPlaces tab
 other-levels qp [] e dc = absurd (omega arith)
 other-levels qp (z ∷ l) e dc = refl
 
+-- numbers of 16 bits in raster order are so in the order of the levels
+zigzag-inside : (d : List ℤ) → ((k : ℕ) → inside (minus 32768) (pos 32767) (getD d k (pos 0)) ≡ true) → firstWide (inZigzag d) ≡ 16
+unfolding inZigzag
+zigzag-inside d h =
+    all-inside (minus 32768) (pos 32767) (inZigzag d)
+    (λ step l.
+    ap (inside (minus 32768) (pos 32767)) (getD-tab 16 (λ k. getD d (zigzagOf k) (pos 0)) step (pos 0) (omega (arith, length-zigzag d)))
+    ∙ h (zigzagOf step))
+    ∙ length-zigzag d
+
+-- with a DC of 16 bits in the first place
+set-inside : (d : List ℤ) (dc : ℤ) → inside (minus 32768) (pos 32767) dc ≡ true → Each 32767 d → (k : ℕ) → inside (minus 32768) (pos 32767) (getD (set d 0 dc) k (pos 0)) ≡ true
+set-inside [] dc e h k = within-inside (minus 32768) (pos 32767) 32767 tt tt (getD [] k (pos 0)) (each-at 32767 [] tt k)
+set-inside (z ∷ d) dc e h zero = e
+set-inside (z ∷ d) dc e h (suc k) = within-inside (minus 32768) (pos 32767) 32767 tt tt (getD d k (pos 0)) (each-at 32767 d (h .1) k)
+
+each-rest : (B : ℕ) (l : List ℤ) → Each B l → Each B (drop 1 l)
+each-rest B [] h = tt
+each-rest B (z ∷ l) h = h .1
+
 module _ (qp : ℕ) (x : List ℤ) where
   pub length-quantized : length (quantized qp x) ≡ 16
   unfolding quantized
@@ -151,13 +175,26 @@ module _ (qp : ℕ) (legal : qp ≤ highest) (x : List ℤ) (small : Each 255 x)
       chain-passed (levelTests 16 0 qp (length p) l (length o)) (rangeTest (rescaledOf qp l) ∷ []) first
       ∙ range-fine (rescaledOf qp l) (omega (arith, own-numbers-fit))
 
-  -- ---- the DC path
+  -- ---- the DC path: levels 1 to 15, with any DC of 16 bits
 
-  pub record DcPath (dc : ℤ) : Type 0 where
-    -- its AC levels are levels 1 to 15 of the block: with any DC they rebuild from the block's own numbers, place 0 replaced
-    pub numbers : rescaledWithDc qp dc (drop 1 (levelsOf qp x)) ≡ set (rescaledOf qp (levelsOf qp x)) 0 dc
-    -- and its DC is coefficient 0, in the range that the DC paths take
-    pub range : Within 4080 (getD (forward x) 0 (pos 0))
+  module _ (dc : ℤ) (fits : inside (minus 32768) (pos 32767) dc ≡ true) where
+    -- the block's own numbers, place 0 replaced
+    pub ac-numbers : rescaledWithDc qp dc (drop 1 (levelsOf qp x)) ≡ set (rescaledOf qp (levelsOf qp x)) 0 dc
+    ac-numbers = other-levels qp (levelsOf qp x) (length-zigzag (quantized qp x)) dc
 
-  pub dc-path : (dc : ℤ) → DcPath dc
-  dc-path dc = record { numbers = other-levels qp (levelsOf qp x) (length-zigzag (quantized qp x)) dc; range = forward-within x small 0 (omega arith) }
+    ac-fit : firstWide (inZigzag (rescaledWithDc qp dc (drop 1 (levelsOf qp x)))) ≡ 16
+    ac-fit =
+        let d = rescaledOf qp (levelsOf qp x) in
+        zigzag-inside (rescaledWithDc qp dc (drop 1 (levelsOf qp x)))
+        (λ k. ap (λ (l : List ℤ). inside (minus 32768) (pos 32767) (getD l k (pos 0))) ac-numbers
+        ∙ set-inside d dc fits (each-less 25978 32767 d (own-levels-in-range .numbers) tt) k)
+
+    -- so `rebuild_with_dc` accepts them, whatever the prediction
+    pub own-ac-pass : (p o : List ℕ) → length p ≡ 16 → length o ≡ 16 → chain (withDcTests qp p dc (drop 1 (levelsOf qp x)) o) ≡ pass
+    own-ac-pass p o a b =
+        let ac = drop 1 (levelsOf qp x) in
+        let n : length ac ≡ 15 = omega (arith, length-drop 1 (levelsOf qp x), length-zigzag (quantized qp x)) in
+        let narrow = wide-none ac (each-less 1632 32767 ac (each-rest 1632 (levelsOf qp x) (own-levels-in-range .levels)) tt) in
+        let first = accepts-all 15 1 qp (length p) ac (length o) a n b legal (omega (arith, narrow, n)) in
+        chain-passed (levelTests 15 1 qp (length p) ac (length o)) (rangeTest (rescaledWithDc qp dc ac) ∷ []) first
+        ∙ range-fine (rescaledWithDc qp dc ac) (omega (arith, ac-fit))

@@ -1,13 +1,13 @@
 -- Laws of the scales.
---     by-class       sixteen entries, one for each class, in the order of the places
+--     by-class       a number for each class, at the sixteen places
 --     scale-small    a scale times a power of two
 --     scaled-block   the scaling rule at k = 0: a level times its scale
 --     scaled-within  how large the scaling rule's numbers are, over k and the period
---     scalesOf, scales-each, rescaled-by     the sixteen scales, their bound, and that levels times them are the rescaled numbers
+--     scalesOf, scales-small, rescaled-by     the sixteen scales, their bound, and that levels times them are the rescaled numbers
 -- Assumes nothing.
-use mathlib.Core.Path.{_≡_, sym, ap, _∙_}
+use mathlib.Core.Path.{_≡_, sym, ap, subst, _∙_}
 use mathlib.Core.Bool.{Bool, true, false, not, cond}
-use mathlib.Core.List.{List, [], _∷_}
+use mathlib.Core.List.{List}
 use Prim.Native.Nat.{ℕ, _-_, _*_, _^_, _<_, _≤_, zero-le}
 use native.Mathlib.Nat.{mul-le-mul, mul-le-mul-right, le-of-mul-le-mul-left}
 use native.Mathlib.Omega.{arith}
@@ -20,20 +20,18 @@ use lib.Signed.{shrZ}
 use Rattle.lists.specs.Tab.{tab}
 use Rattle.lists.proofs.Tab.{tab-same, getD-tab}
 use Rattle.quantizer.specs.Range.{highest, periodOf, remainderOf}
-use Rattle.quantizer.specs.Tables.{vOf, classAtPlace}
+use Rattle.quantizer.specs.Tables.{vOf, ofClass, classAtPlace}
 use Rattle.quantizer.specs.declared.Class.{Class}
 use Rattle.quantizer.specs.declared.Class.the-variants.{A, B, C}
-use Rattle.quantizer.proofs.Tables.{v-small}
-use Rattle.whole.specs.Bounds.{Within, Each}
+use Rattle.quantizer.proofs.Tables.{of-class, v-small}
+use Rattle.whole.specs.Bounds.{Within}
 use Rattle.whole.proofs.Bound.{abs-mul, shr-within}
-use Rattle.whole.proofs.Lists.{each-tab}
 use Rattle.whole.proofs.Laws.{*ℤ-assoc}
 use Rattle.residual.specs.Rescale.{scaledBy, vAt, rescaled}
 
-pub by-class : {X : Type 0} (f : Class → X) (a b c : X) → a ≡ f A → b ≡ f B → c ≡ f C
-    → a ∷ c ∷ a ∷ c ∷ c ∷ b ∷ c ∷ b ∷ a ∷ c ∷ a ∷ c ∷ c ∷ b ∷ c ∷ b ∷ [] ≡ tab 16 (λ place. f (classAtPlace place))
-unfolding tab
-by-class f a b c p q r = rw (p, q, r)
+-- of a number for each class, those of the places
+pub by-class : (f : Class → ℕ) (a b c : ℕ) → a ≡ f A → b ≡ f B → c ≡ f C → tab 16 (λ place. ofClass a b c (classAtPlace place)) ≡ tab 16 (λ place. f (classAtPlace place))
+by-class f a b c p q r = (λ i. tab 16 (λ place. ofClass (p i) (q i) (r i) (classAtPlace place))) ∙ tab-same 16 _ _ (λ place h. of-class f (classAtPlace place))
 
 pub scale-small : (qp power : ℕ) → power ≤ 8 → (class : Class) → vOf (remainderOf qp) class * 2 ^ power ≤ 7424
 scale-small qp power h class = mul-le-mul (v-small (remainderOf qp) (omega arith) class) (pow-mono {i = power} {j = 8} h)
@@ -67,16 +65,17 @@ scaled-within k p M N room x w = by (leb k p) (leb→le k p) (nleb→lt k p)
         let most : M ≤ 2 ^ (k - p) * N = le-of-mul-le-mul-left {k = 2 ^ p} (omega (arith, ap (λ (n : ℕ). n * N) split)) (pow-pos p) in
         shr-within (2 ^ (k - p)) N (2 ^ (k - p - 1)) (pow-lt (omega arith)) x (record { size = omega arith })
 
-abbrev pub scalesOf : ℕ → List ℤ
-scalesOf qp = tab 16 (λ place. pos (vAt qp place * 2 ^ periodOf qp))
+abbrev pub scalesOf : ℕ → List ℕ
+scalesOf qp = tab 16 (λ place. vAt qp place * 2 ^ periodOf qp)
 
-pub scales-each : (qp : ℕ) → qp ≤ highest → Each 7424 (scalesOf qp)
-scales-each qp h = each-tab 7424 16 _ (λ place l. record { size = scale-small qp (periodOf qp) (omega arith) (classAtPlace place) })
+pub scales-small : (qp place : ℕ) → qp ≤ highest → place < 16 → getD (scalesOf qp) place 0 ≤ 7424
+scales-small qp place h l =
+    subst (λ (n : ℕ). n ≤ 7424) (sym (getD-tab 16 (λ k. vAt qp k * 2 ^ periodOf qp) place 0 l)) (scale-small qp (periodOf qp) (omega arith) (classAtPlace place))
 
-pub rescaled-by : (qp : ℕ) (levels : List ℤ) → tab 16 (λ place. getD levels place (pos 0) *ℤ getD (scalesOf qp) place (pos 0)) ≡ rescaled qp levels
+pub rescaled-by : (qp : ℕ) (levels : List ℤ) → tab 16 (λ place. getD levels place (pos 0) *ℤ pos (getD (scalesOf qp) place 0)) ≡ rescaled qp levels
 unfolding rescaled
 rescaled-by qp levels =
     tab-same 16 _ _
     (λ place l.
-    ap (λ (z : ℤ). getD levels place (pos 0) *ℤ z) (getD-tab 16 (λ k. pos (vAt qp k * 2 ^ periodOf qp)) place (pos 0) l)
+    ap (λ (n : ℕ). getD levels place (pos 0) *ℤ pos n) (getD-tab 16 (λ k. vAt qp k * 2 ^ periodOf qp) place 0 l)
     ∙ scaled-block (periodOf qp) (vAt qp place) (getD levels place (pos 0)))

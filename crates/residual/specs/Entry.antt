@@ -4,13 +4,14 @@ use mathlib.Core.Path.{_≡_}
 use mathlib.Core.List.{List, [], _∷_, _++_}
 use Prim.Native.Nat.{ℕ, _+_}
 use lib.Dec.{eqb, leb}
-use lib.IntN.{ℤ, pos, negsuc}
+use lib.IntN.{ℤ, pos}
 use lib.ListN.{length}
 use Rattle.lists.specs.Chain.{Test, test, chain, written}
 use Rattle.refusal.specs.Number.{said, Says}
 use Rattle.refusal.specs.declared.Answer.{Answer}
 use Rattle.refusal.specs.declared.Refusal.{Refusal}
 use Rattle.refusal.specs.declared.Refusal.the-variants as refusal
+use Rattle.whole.specs.Notation.{minus}
 use Rattle.whole.specs.Range.{firstOutside}
 use Rattle.transform.specs.Entry.{outside}
 use Rattle.quantizer.specs.Range.{highest}
@@ -22,7 +23,7 @@ use Rattle.residual.specs.Rebuild.{rebuiltSamples, rescaledOf, rescaledW
 
 -- "outside -32768..32767": the first index
 abbrev pub firstWide : List ℤ → ℕ
-firstWide l = firstOutside (negsuc 32767) (pos 32767) l
+firstWide l = firstOutside (minus 32768) (pos 32767) l
 
 -- QUANTIZER: "QP above 51"
 abbrev pub quantizerTest : ℕ → Test Refusal

@@ -1,6 +1,5 @@
 -- "Zigzag visits raster places 0,1,4,8,.." (01, "Transform, quantizer, rescaling"): the order of the levels. Assumes nothing.
 use mathlib.Core.List.{List}
-use Prim.Native.Nat.{ℕ}
 use lib.IntN.{ℤ, pos}
 use lib.ListN.{getD}
 use Rattle.lists.specs.Tab.{tab}

@@ -5,14 +5,14 @@ use Prim.Native.Nat.{ℕ, _-_, _^_}
 use lib.Dec.{leb}
 use lib.IntN.{ℤ, pos, _+ℤ_, _*ℤ_}
 use lib.ListN.{getD}
-use lib.Signed.{shrZ}
 use Rattle.lists.specs.Tab.{tab}
+use Rattle.whole.specs.Notation.{_>>_}
 use Rattle.quantizer.specs.Range.{periodOf, remainderOf}
 use Rattle.quantizer.specs.Tables.{mfOf, vOf, classAtPlace}
 
 -- the one scaling rule: k = 0 for a block, x*2^p; k = 2 for luma DC, "p>=2: g*Va*2^(p-2); p<2: (g*Va+2^(1-p))>>(2-p)"
 unfoldable pub scaledBy : ℕ → ℕ → ℤ → ℤ
-scaledBy k p x = cond (leb k p) (x *ℤ pos (2 ^ (p - k))) (shrZ (x +ℤ pos (2 ^ (k - p - 1))) (2 ^ (k - p)))
+scaledBy k p x = cond (leb k p) (x *ℤ pos (2 ^ (p - k))) ((x +ℤ pos (2 ^ (k - p - 1))) >> (k - p))
 
 -- MF and V at a raster place, by its class
 abbrev pub mfAt : ℕ → ℕ → ℕ

@@ -23,28 +23,28 @@ pub(crate) fn multipliers(quantizer: Quantizer) -> [u32; 16]
     let a = quantizer.mf(Class::A) as u32;
     let b = quantizer.mf(Class::B) as u32;
     let c = quantizer.mf(Class::C) as u32;
-    [a, c, a, c, c, b, c, b, a, c, a, c, c, b, c, b]
+    quantizer::inner::by_class(a, b, c)
 }
 
 // The scale of a class, times a power of two: the period's for a block, a smaller one for luma DC.
-pub fn scale(quantizer: Quantizer, class: Class, power: u8) -> i32
+pub fn scale(quantizer: Quantizer, class: Class, power: u8) -> u32
     requires { ⌜ power ≤ 8 ⌝ }
-    ensures { λ r. ⌜ r ≡ pos (vOf (remainderOf (quantizer .qp)) class * 2 ^ power) ⌝ }
+    ensures { λ r. ⌜ r ≡ vOf (remainderOf (quantizer .qp)) class * 2 ^ power ⌝ }
 {
     let v = quantizer.v(class) as u32;
-    (v << power) as i32
+    v << power
 }
 
 // The scales of the sixteen places.
-pub(crate) fn scales(quantizer: Quantizer) -> [i32; 16]
+pub(crate) fn scales(quantizer: Quantizer) -> [u32; 16]
     requires { ⌜ quantizer .qp ≤ highest ⌝ }
-    ensures { λ r. ⌜ r ≡ tab 16 (λ place. pos (vAt (quantizer .qp) place * 2 ^ periodOf (quantizer .qp))) ⌝ }
+    ensures { λ r. ⌜ r ≡ tab 16 (λ place. vAt (quantizer .qp) place * 2 ^ periodOf (quantizer .qp)) ⌝ }
 {
     let period = quantizer.period();
     let a = scale(quantizer, Class::A, period);
     let b = scale(quantizer, Class::B, period);
     let c = scale(quantizer, Class::C, period);
-    [a, c, a, c, c, b, c, b, a, c, a, c, c, b, c, b]
+    quantizer::inner::by_class(a, b, c)
 }
 
 // The level of a coefficient: its size times mf, and f, divided by 2^q; then its sign.
@@ -125,16 +125,16 @@ pub fn in_places(l: [i32; 16]) -> [i32; 16]
     placed(&l)
 }
 
-fn scaled(level: i32, scale: i32) -> i32
-    requires { ⌜ (Within 32768 level) × (Within 7424 scale) ⌝ }
-    ensures { λ r. ⌜ r ≡ level *ℤ scale ⌝ }
+fn scaled(level: i32, scale: u32) -> i32
+    requires { ⌜ (Within 32768 level) × (scale ≤ 7424) ⌝ }
+    ensures { λ r. ⌜ r ≡ level *ℤ pos scale ⌝ }
 {
-    level * scale
+    level * (scale as i32)
 }
 
-fn products(levels: [i32; 16], scale: [i32; 16]) -> [i32; 16]
-    requires { ⌜ (Each 32768 levels) × (Each 7424 scale) ⌝ }
-    ensures { λ r. ⌜ r ≡ tab 16 (λ place. getD levels place (pos 0) *ℤ getD scale place (pos 0)) ⌝ }
+fn products(levels: [i32; 16], scale: [u32; 16]) -> [i32; 16]
+    requires { ⌜ (Each 32768 levels) × ((k : ℕ) → k < 16 → getD scale k 0 ≤ 7424) ⌝ }
+    ensures { λ r. ⌜ r ≡ tab 16 (λ place. getD levels place (pos 0) *ℤ pos (getD scale place 0)) ⌝ }
 {
     let mut out = [0i32; 16];
     for place in 0usize..16 {

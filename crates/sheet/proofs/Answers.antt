@@ -11,9 +11,9 @@ use native.Mathlib.Omega.{arith}
 use borrow.Author.Tests.{eqb-true, eqb-false, ltb-false, eq-eqb, ne-eqb}
 use lib.Dec.{ltb}
 use lib.ListN.{length, getD}
-use Rattle.lists.specs.Chain.{pass, chain}
+use Rattle.lists.specs.Chain.{pass, chain, AllPass}
 use Rattle.lists.proofs.First.{first-before}
-use Rattle.lists.proofs.Chain.{AllPass, chain-exactly-if, holds-new}
+use Rattle.lists.proofs.Chain.{chain-exactly-if, holds-new}
 use Rattle.lists.proofs.Total.{total-low, term-low}
 use Rattle.refusal.proofs.Same.{says-same}
 use Rattle.record.specs.Entry.{sizeHolds}

@@ -8,7 +8,7 @@ use native.Mathlib.Nat.{mul-le-mul, lt-of-not-le}
 use native.Mathlib.Omega.{arith}
 use lib.IntN.{pos}
 use lib.Pow.{pow-mono}
-use Rattle.lists.proofs.Bytes.{Bytes}
+use Rattle.lists.specs.Bytes.{Bytes}
 use Rattle.whole.specs.Bounds.{Within}
 use Rattle.whole.proofs.Bound.{within-by}
 use Rattle.whole.proofs.Laws.{diff-minus, diff-self}

@@ -21,7 +21,7 @@ use borrow.Author.Tests.{ne-eqb}
 use Rattle.whole.specs.Bounds.{Within}
 use Rattle.sheet.specs.Code.{longest}
 use Rattle.sheet.specs.Means.{dividedOnce}
-use Rattle.sheet.specs.Promises.{signOf, IsFraction, Converts, roundedOnce}
+use Rattle.sheet.specs.Promises.{isNegative, IsFraction, Converts, roundedOnce}
 
 pub casts : (z : ℤ) → Within longest z → T (inFloat binary64 z)
 unfolding inFloat
@@ -70,10 +70,10 @@ quotient (fin false m e) (fin false n d) false a b h p q = fraction false m n a 
 
 pub divided-rounds : (z : ℤ) (c : ℕ) → Within longest z → c ≤ longest → 0 < c → dividedOnce z c ≡ roundedOnce z c
 divided-rounds z c h l p =
-    quotient (ofInt binary64 z) (ofInt binary64 (pos c)) (signOf z) (natAbs z) c p (whole z h) (whole (pos c) (record { size = l }))
+    quotient (ofInt binary64 z) (ofInt binary64 (pos c)) (isNegative z) (natAbs z) c p (whole z h) (whole (pos c) (record { size = l }))
 
 pub divided-by-power : (z : ℤ) (c k : ℕ) → Within longest z → c ≤ longest → c ≡ 2 ^ k → k ≤ 1074 → IsFraction (dividedOnce z c) z c
 divided-by-power z c k h l e u =
     let p : 0 < c = subst (λ (n : ℕ). 0 < n) (sym e) (pow-pos k) in
     subst (λ (x : Float). IsFraction x z c) (sym (divided-rounds z c h l p))
-    (subst (λ (n : ℕ). HasValue (round binary64 (signOf z) (natAbs z) n) (signOf z) (natAbs z) n) (sym e) (over-power (signOf z) (natAbs z) k (omega (arith, h .size)) u))
+    (subst (λ (n : ℕ). HasValue (round binary64 (isNegative z) (natAbs z) n) (isNegative z) (natAbs z) n) (sym e) (over-power (isNegative z) (natAbs z) k (omega (arith, h .size)) u))

@@ -14,8 +14,7 @@ use lib.Dec.{eqb}
 use lib.IntN.{pos, _-ℤ_}
 use lib.Ieee.{Float}
 use lib.ListN.{length}
-use Rattle.lists.specs.Chain.{Verdict, pass, stop, chain, written}
-use Rattle.lists.proofs.Chain.{ExactlyIf}
+use Rattle.lists.specs.Chain.{Verdict, pass, stop, chain, written, ExactlyIf}
 use Rattle.refusal.specs.declared.Refusal.{Refusal}
 use Rattle.refusal.specs.declared.Refusal.the-variants as refusal
 use Rattle.refusal.proofs.Same.{says, says-same, says-exactly-if}

@@ -14,8 +14,8 @@ use denote.Ref.{now}
 use denote.Triple.Clauses.{AtExit}
 use borrow.Fn.Kinds.{Dens, resT, endedOf}
 use lib.ListN.{getD}
-use Rattle.lists.proofs.Bytes.{Bytes}
-use Rattle.lists.proofs.Chain.{AllPass}
+use Rattle.lists.specs.Bytes.{Bytes}
+use Rattle.lists.specs.Chain.{AllPass}
 use Rattle.picture.specs.Plane.{layoutOf}
 use Rattle.picture.proofs.Plane.{samples-fit}
 use Rattle.sheet.specs.Entry.{sheetTests, Sheets}

@@ -14,13 +14,13 @@ use Rattle.sheet.specs.Errors.{signedError, absoluteError, squaredError,
 use Rattle.sheet.specs.declared.Sheet.{Sheet}
 
 -- whether a whole number is below 0
-abbrev pub signOf : ℤ → Bool
-signOf (pos n) = false
-signOf (negsuc n) = true
+abbrev pub isNegative : ℤ → Bool
+isNegative (pos n) = false
+isNegative (negsuc n) = true
 
 -- a double is the fraction z / c
 abbrev pub IsFraction : Float → ℤ → ℕ → Type 0
-IsFraction x z c = HasValue x (signOf z) (natAbs z) c
+IsFraction x z c = HasValue x (isNegative z) (natAbs z) c
 
 -- a whole number that is the same number as a double
 abbrev pub Converts : ℤ → Type 0
@@ -28,7 +28,7 @@ Converts z = IsFraction (ofInt binary64 z) z 1
 
 -- "divided once": the double nearest to the fraction z / c, at a tie the even one
 abbrev pub roundedOnce : ℤ → ℕ → Float
-roundedOnce z c = round binary64 (signOf z) (natAbs z) c
+roundedOnce z c = round binary64 (isNegative z) (natAbs z) c
 
 -- P of each mean of a sheet and of the sum that it is the mean of
 pub record OfEach (l : Layout) (original rebuilt map : List ℕ) (s : Sheet) (P : Float → ℤ → Type 0) : Type 0 where

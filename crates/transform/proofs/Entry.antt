@@ -10,8 +10,7 @@ use native.Mathlib.Omega.{arith}
 use borrow.Author.Tests.{eq-eqb, ne-eqb}
 use lib.IntN.{ℤ, pos, negsuc}
 use lib.ListN.{length}
-use Rattle.lists.specs.Chain.{chain, pass, stop}
-use Rattle.lists.proofs.Chain.{ExactlyIf}
+use Rattle.lists.specs.Chain.{chain, pass, stop, ExactlyIf}
 use Rattle.whole.specs.Bounds.{Each}
 use Rattle.whole.proofs.Range.{outside-le, none-each}
 use Rattle.refusal.specs.Number.{said}

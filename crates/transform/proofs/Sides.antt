@@ -4,7 +4,7 @@
 --     forward-around, hadamard-around    the definitions as M X M-transposed
 --     forward-sides, hadamard-sides      and as each row through M, then each column
 --     rounded-inverse                    the inverse's last step
---     length-forward, length-hadamard, length-inverse
+--     length-forward, length-hadamard
 -- Assumes nothing.
 use mathlib.Core.Path.{_≡_, refl, sym, ap, subst, _∙_}
 use mathlib.Core.List.{List}
@@ -98,7 +98,3 @@ length-forward x = length-tab 16 _
 pub length-hadamard : (n : ℕ) (H : Matrix) (w : List ℤ) → length (hadamard n H w) ≡ n * n
 unfolding hadamard
 length-hadamard n H w = length-tab (n * n) _
-
-pub length-inverse : (d : List ℤ) → length (inverse d) ≡ 16
-unfolding inverse
-length-inverse d = length-tab 16 _

@@ -1,6 +1,7 @@
 -- "Y = C X C-transposed" (01, "Transform, quantizer, rescaling"). Assumes nothing.
 use mathlib.Core.List.{List, [], _∷_}
-use lib.IntN.{ℤ, pos, negsuc}
+use lib.IntN.{ℤ, pos}
+use Rattle.whole.specs.Notation.{minus}
 use Rattle.transform.specs.Matrix.{Matrix, product, transposed, raster, entries}
 
 -- "C has rows (1,1,1,1), (2,1,-1,-2), (1,-1,-1,1), (1,-2,2,-1)."
@@ -8,9 +9,9 @@ abbrev pub C : Matrix
 C =
     raster 4
     (pos 1 ∷ pos 1 ∷ pos 1 ∷ pos 1
-    ∷ pos 2 ∷ pos 1 ∷ negsuc 0 ∷ negsuc 1
-    ∷ pos 1 ∷ negsuc 0 ∷ negsuc 0 ∷ pos 1
-    ∷ pos 1 ∷ negsuc 1 ∷ pos 2 ∷ negsuc 0 ∷ [])
+    ∷ pos 2 ∷ pos 1 ∷ minus 1 ∷ minus 2
+    ∷ pos 1 ∷ minus 1 ∷ minus 1 ∷ pos 1
+    ∷ pos 1 ∷ minus 2 ∷ pos 2 ∷ minus 1 ∷ [])
 
 -- the coefficients of a block's sixteen residuals
 unfoldable pub forward : List ℤ → List ℤ

@@ -2,12 +2,12 @@
 use mathlib.Core.List.{List, [], _∷_}
 use lib.IntN.{ℤ, pos, _+ℤ_, _-ℤ_}
 use lib.ListN.{getD}
-use lib.Signed.{shrZ}
+use Rattle.whole.specs.Notation.{_>>_}
 use Rattle.transform.specs.Matrix.{Line, eachRow, eachColumn, raster, entries}
 
--- "shifts round down": z >> 1
+-- "shifts round down"
 abbrev pub half : ℤ → ℤ
-half z = shrZ z 2
+half z = z >> 1
 
 -- "from w0..w3 make e=w0+w2, g=w0-w2, k=(w1>>1)-w3, m=w1+(w3>>1), giving e+m, g+k, g-k, e-m"
 abbrev pub butterfly : ℤ → ℤ → ℤ → ℤ → List ℤ
@@ -24,7 +24,7 @@ back w = λ place. getD (butterfly (w 0) (w 1) (w 2) (w 3)) place (pos 0)
 
 -- "Residual = (value+32)>>6"
 abbrev pub rounded : ℤ → ℤ
-rounded z = shrZ (z +ℤ pos 32) 64
+rounded z = (z +ℤ pos 32) >> 6
 
 -- the residuals of a block's sixteen rescaled coefficients
 unfoldable pub inverse : List ℤ → List ℤ

@@ -31,21 +31,7 @@ use Rattle.fleecebutton.specs.Word.{wordOf}
 use Rattle.fleecebutton.proofs.Told.{done-exactly-if, passed-word}
 use Rattle.turned.specs.Square.{turnedBlock, turnedSamples}
 use Rattle.turned.specs.Exchanged.{turnedPrediction}
-use Rattle.turned.specs.Calls.{
-  forwardResidual,
-  forwardBefore,
-  FbForwardTurns,
-  levelsQuantizer,
-  levelsResidual,
-  levelsBefore,
-  FbLevelsTurn,
-  predictNeighbours,
-  predictFlags,
-  predictMode,
-  predictBefore,
-  CallsExchanged,
-  FbPredictTurns,
-}
+use Rattle.turned.specs.Calls.{forwardResidual, forwardBefore, FbForwardTurns, levelsQuantizer, levelsResidual, levelsBefore, FbLevelsTurn, predictNeighbours, predictFlags, predictMode, predictBefore, CallsExchanged, FbPredictTurns}
 use Rattle.turned.proofs.Coefficients.{coefficients-turn, levels-turn}
 use Rattle.turned.proofs.Prediction.{permitted-turns, prediction-turns}
 

@@ -15,22 +15,10 @@ use Rattle.lists.specs.Tab.{tab, grid, turned}
 use Rattle.lists.specs.Total.{total}
 use Rattle.lists.proofs.Every.{same-test}
 use Rattle.predict.specs.Samples.{Round, cornerOf, aboveOf, upperRightOf, leftOf, bitOf, sideIf, mask}
-use Rattle.predict.specs.Rules.{samples, predicted, permitted, avg3, vertical, horizontal, downRight, verticalRight}
+use Rattle.predict.specs.Rules.{samples, predicted, permitted, avg3, rowOf, vertical, horizontal, downRight, verticalRight}
 use Rattle.predict.proofs.Masked.{thirteen}
 use Rattle.predict.proofs.Missing.{same-side}
-use Rattle.turned.specs.Exchanged.{
-  Exchanged,
-  exchangedNeighbours,
-  exchangedFlags,
-  Becomes,
-  from-vertical,
-  from-horizontal,
-  dc-stays,
-  down-right-stays,
-  from-vertical-right,
-  from-horizontal-down,
-  turnedPrediction,
-}
+use Rattle.turned.specs.Exchanged.{Exchanged, exchangedNeighbours, exchangedFlags, Becomes, from-vertical, from-horizontal, dc-stays, down-right-stays, from-vertical-right, from-horizontal-down, turnedPrediction}
 use Rattle.turned.specs.Claims.{PermittedTurns, PredictionTurns}
 use Rattle.turned.specs.Calls.{CallsExchanged}
 
@@ -98,7 +86,7 @@ module _ (M A B C D I J K L : ℕ) (e e′ : List ℕ) where
   round-turns dc-stays false false m = refl
   -- "x=y: avg3(A,M,I)": from either end
   round-turns down-right-stays true true true =
-      let below = downRight (λ k. getD (M ∷ I-L) k 0) (λ k. getD (M ∷ A-D) k 0) in
+      let below = downRight (rowOf (M ∷ []) I-L) (rowOf (M ∷ []) A-D) in
       ap (λ (d : ℕ). samples (grid 4 (λ x y. cond (eqb x y) d (below x y)))) (avg3-turns A M I)
   round-turns down-right-stays true true false = refl
   round-turns down-right-stays true false m = refl

@@ -32,18 +32,7 @@ use Rattle.residual.specs.Quantize.{levelBy}
 use Rattle.residual.specs.Rebuild as rebuild
 use Rattle.residual.specs.Rescale.{scaledBy, rescaled}
 use Rattle.turned.specs.Square.{turnedBlock}
-use Rattle.turned.specs.Exchanged.{
-  exchangedNeighbours,
-  exchangedFlags,
-  Becomes,
-  from-vertical,
-  from-horizontal,
-  dc-stays,
-  down-right-stays,
-  from-vertical-right,
-  from-horizontal-down,
-  turnedPrediction,
-}
+use Rattle.turned.specs.Exchanged.{exchangedNeighbours, exchangedFlags, Becomes, from-vertical, from-horizontal, dc-stays, down-right-stays, from-vertical-right, from-horizontal-down, turnedPrediction}
 use Rattle.turned.specs.Claims.{NoOthersTurn, RebuiltNotIncluded}
 use Rattle.turned.proofs.Prediction.{exchanged-is}
 

@@ -1,6 +1,6 @@
 -- Lists of whole numbers: bounds on each, numbers that are read back from their bits, and several results of straight-line code at once.
 --     each-less, each-from, each-tab, each-gather         bounds of a list
---     reads: plain, plain-fits, plain-gather, each-reads  numbers read back from their bits are the numbers
+--     reads: plain, plain-fits, plain-gather             numbers read back from their bits are the numbers
 --     gather                                              the numbers at a list of places
 --     raws-of, ideals, expressions; oks, mosts            a list of `Code`, as `raw`, `ideal`, `expression`, `ok` and `most` of each
 --     exacts, sizes                                       each is exact; each is at most M
@@ -55,10 +55,6 @@ each-tab B n f h =
     (λ i l.
     let m : i < n = rw length-tab at l in
     subst (λ (z : ℤ). Within B z) (sym (getD-tab n f i (pos 0) m)) (h i m))
-
--- what a caller hands over for arguments that it reads from locals
-pub each-reads : (w : Width) (A B : ℕ) (l : List ℤ) → Each A l → T (ltb A (2 ^ hbits w)) → T (leb A B) → Each B (reads w l)
-each-reads w A B l h t u = subst (λ (m : List ℤ). Each B m) (sym (plain w A l h t)) (each-less A B l h u)
 
 -- the numbers of l at the places of a list of places
 abbrev pub gather : List ℕ → List ℤ → List ℤ

@@ -1,10 +1,11 @@
 -- Laws of the range test and of the first number outside a range.
 --     inside-true, inside-within, within-inside               the test, as two tests and as a bound
---     outside-le, outside-here, outside-before, outside-is    the place: inside the list or its end; this one is outside, none before; nothing else
---     none-outside, none-each, each-none                      where it is the end: each is inside, and within a bound; and back
+--     outside-le, outside-before, first-offence               the place: inside the list or its end; a place exactly if this one is outside, none before
+--     none-outside, none-each, all-inside, each-none          where it is the end: each is inside, and within a bound; and back
 -- Assumes nothing.
-use mathlib.Core.Path.{_≡_, ap}
-use mathlib.Core.Bool.{Bool, true, false, not}
+use mathlib.Core.Path.{_≡_, sym, ap, _∙_}
+use mathlib.Core.Logic.{_↔_}
+use mathlib.Core.Bool.{Bool, true, not}
 use mathlib.Core.List.{List}
 use Prim.Native.Nat.{ℕ, _+_, _≤_, _<_}
 use native.Mathlib.Omega.{arith}
@@ -16,7 +17,7 @@ use lib.Signed.{leZ}
 use Rattle.lists.proofs.Every.{both-true}
 use Rattle.lists.proofs.First.{first-le, first-before, first-passes, first-is, first-none}
 use Rattle.whole.specs.Bounds.{Within, Each}
-use Rattle.whole.specs.Range.{inside, firstOutside}
+use Rattle.whole.specs.Range.{inside, firstOutside, FirstOffence}
 use Rattle.whole.proofs.Bound.{within-nat}
 use Rattle.whole.proofs.Laws.{up, down}
 use Rattle.whole.proofs.Lists.{each-from}
@@ -53,22 +54,21 @@ module _ (low high : ℤ) where
     unfolding firstOutside
     outside-le = first-le outsideAt (length l)
 
-    -- this one is outside
-    pub outside-here : firstOutside low high l < length l → inside low high (getD l (firstOutside low high l) (pos 0)) ≡ false
-    unfolding firstOutside
-    outside-here h = not-true (inside low high (getD l (firstOutside low high l) (pos 0))) (first-passes outsideAt (length l) h)
-
     -- none before is
     pub outside-before : (i : ℕ) → i < firstOutside low high l → inside low high (getD l i (pos 0)) ≡ true
     unfolding firstOutside
     outside-before i h = not-false (inside low high (getD l i (pos 0))) (first-before outsideAt (length l) i h)
 
-    -- and it is the only such place
-    pub outside-is : (i : ℕ) → i < length l → ((j : ℕ) → j < i → inside low high (getD l j (pos 0)) ≡ true)
-        → inside low high (getD l i (pos 0)) ≡ false
-        → firstOutside low high l ≡ i
+    -- a place of the list is the one exactly if this one is outside, none before
+    pub first-offence : (i : ℕ) → i < length l → (firstOutside low high l ≡ i) ↔ FirstOffence low high l i
     unfolding firstOutside
-    outside-is i h before e = first-is outsideAt (length l) i h (λ j k. ap not (before j k)) (ap not e)
+    first-offence i h = (
+      λ e. record {
+        here = ap (λ (k : ℕ). inside low high (getD l k (pos 0))) (sym e) ∙ not-true (inside low high (getD l (firstOutside low high l) (pos 0))) (first-passes outsideAt (length l) (omega arith));
+        before = λ j k. outside-before j (omega arith);
+      },
+      λ o. first-is outsideAt (length l) i h (λ j k. ap not (o .before j k)) (ap not (o .here)),
+    )
 
     -- ---- where it is the end
 
@@ -78,6 +78,9 @@ module _ (low high : ℤ) where
     pub none-each : (B : ℕ) → T (leb (down low) B) → T (leb (up high) B) → length l ≤ firstOutside low high l → Each B l
     none-each B a b h = each-from B l (λ i k. inside-within B a b (getD l i (pos 0)) (none-outside h i k))
 
-    pub each-none : (B : ℕ) → T (leb (up low + B) (down low)) → T (leb (B + down high) (up high)) → Each B l → firstOutside low high l ≡ length l
+    pub all-inside : ((i : ℕ) → i < length l → inside low high (getD l i (pos 0)) ≡ true) → firstOutside low high l ≡ length l
     unfolding firstOutside
-    each-none B a b h = first-none outsideAt (length l) (λ i k. ap not (within-inside B a b (getD l i (pos 0)) (each-at B l h i)))
+    all-inside h = first-none outsideAt (length l) (λ i k. ap not (h i k))
+
+    pub each-none : (B : ℕ) → T (leb (up low + B) (down low)) → T (leb (B + down high) (up high)) → Each B l → firstOutside low high l ≡ length l
+    each-none B a b h = all-inside (λ i k. within-inside B a b (getD l i (pos 0)) (each-at B l h i))

@@ -1,7 +1,7 @@
 -- Uniqueness of the public functions' results, over their actual contracts.
 --     absolute-unique, distance-unique, clip-unique, inside-unique, first-outside-unique, copy-unique
 -- Assumes nothing.
-use mathlib.Core.Path.{_≡_, refl, sym, _∙_}
+use mathlib.Core.Path.{refl, sym, _∙_}
 use mathlib.Core.List.{List}
 use denote.Ref.{now}
 use lib.IntN.{ℤ}

@@ -1,4 +1,5 @@
 pub mod Bounds
 pub mod Clip
+pub mod Notation
 pub mod Range
 pub mod Sum

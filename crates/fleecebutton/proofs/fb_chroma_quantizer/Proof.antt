@@ -5,7 +5,7 @@ use borrow.Author.Needs.{needs}
 use lib.IntN.{ℤ}
 use mir.Syntax.{w32}
 use mir.ValLaws.{toZ-ofZ}
-use Rattle.quantizer.specs.Chroma.{ChromaBuilds, chromaOf}
+use Rattle.quantizer.specs.Chroma.{ChromaBuilds}
 use Rattle.quantizer.specs.declared.Built.{Built}
 use Rattle.fleecebutton.proofs.Words.{value-sent}
 use Rattle.fleecebutton.proofs.fb_chroma_quantizer.Statement.{statement}

@@ -1,12 +1,10 @@
 -- `plane::decode` meets its contract: two lengths, the tests of all records, and then the plane. Assumes nothing.
 use mathlib.Core.Path.{_≡_, sym, ap, _∙_}
-use mathlib.Core.List.{List}
-use Prim.Native.Nat.{ℕ, _*_, _≤_}
+use Prim.Native.Nat.{_*_, _≤_}
 use native.Mathlib.Omega.{arith}
 use borrow.Author.Needs.{needs}
-use lib.ListN.{length}
 use Rattle.refusal.specs.Number.{said}
-use Rattle.lists.specs.Chain.{chain, pass}
+use Rattle.lists.specs.Chain.{chain}
 use Rattle.picture.proofs.Plane.{samples-fit}
 use Rattle.plane.specs.Decode.{recordIn, bodyTests, rebuiltFrom, cleared}
 use Rattle.plane.proofs.Entry.{plane-short, file-short, body-rest, records-passed, body-refused, body-done}

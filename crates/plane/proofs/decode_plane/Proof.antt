@@ -1,7 +1,6 @@
 -- `plane::decode_plane` meets its contract: the head, and then what is tested behind it. Assumes nothing.
-use mathlib.Core.Path.{_≡_, sym, ap, _∙_}
 use borrow.Author.Needs.{needs}
-use Rattle.plane.proofs.Entry.{LegalHead, head-read, head-refused, decodes-by}
+use Rattle.plane.proofs.Entry.{head-read, head-refused, decodes-by}
 use Rattle.plane.proofs.decode_plane.Statement.{statement}
 use Rattle.plane.proofs.decode_plane.Tie as tie
 

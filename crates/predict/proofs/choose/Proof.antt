@@ -1,4 +1,5 @@
 -- `predict::choose` meets its contract: a law for each answer. Assumes nothing.
+use mathlib.Core.Path.{refl}
 use borrow.Author.Needs.{needs}
 use Rattle.predict.proofs.Outcome.{chosen-few, chosen-short, chosen-narrow, chosen-high, chosen-done}
 use Rattle.predict.proofs.choose.Statement.{statement}
@@ -18,11 +19,9 @@ returns-4 c = chosen-high _ _ _ _ (c .before .before .before .if1 .left) (c .bef
 
 returns-5 : tie.Need-returns-5
 returns-5 c =
-    let s = c .before .before .before .before .before in
-    let k = s .before in
-    chosen-done _ _ _ _ (k .before .before .before .if1 .left) (k .before .before .if2 .left) (k .before .if3 .left) _ (k .if4 .left)
-    (s .chosen .ensures)
-    (c .before .before .copy .ensures)
+    let p = c .before .before in
+    let k = p .before .before in
+    chosen-done _ _ _ _ (k .before .before .before .if1 .left) (k .before .before .if2 .left) (k .before .if3 .left) _ (k .if4 .left) (p .pick .ensures) refl
 
 pub choose-spec : {M : Type 1} → statement M
 choose-spec =
@@ -32,7 +31,6 @@ choose-spec =
     returns-2
     returns-3
     returns-4
-    (λ c κs. search needs)
     (λ c κs. search needs)
     (λ c. search needs)
     returns-5)

@@ -3,7 +3,6 @@ use borrow.Author.Needs.{needs}
 use mathlib.Core.Path.{_≡_, sym, ap, subst, _∙_}
 use Prim.Native.Nat.{ℕ, _≤_}
 use native.Mathlib.Omega.{arith}
-use lib.ListN.{length}
 use Rattle.lists.specs.Chain.{Verdict, stop, written}
 use Rattle.whole.specs.Bounds.{Each}
 use Rattle.refusal.specs.declared.Refusal.{Refusal}

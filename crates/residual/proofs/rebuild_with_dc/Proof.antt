@@ -1,7 +1,7 @@
 -- `residual::rebuild_with_dc` meets its contract: the first tests are `accepted`, the last one and the samples are `finished`. Assumes nothing.
 use mathlib.Core.Path.{_≡_, sym, ap, subst, _∙_}
 use mathlib.Core.List.{List, [], _∷_, _++_, append-nil}
-use Prim.Native.Nat.{ℕ, zero-le}
+use Prim.Native.Nat.{zero-le}
 use lib.IntN.{ℤ, pos}
 use lib.ListN.{length, set}
 use mir.Syntax.{w32}
@@ -14,7 +14,7 @@ use Rattle.refusal.proofs.Same.{says}
 use Rattle.residual.specs.Entry.{levelTests, rangeTest, Finishes}
 use Rattle.residual.specs.Order.{inPlaces}
 use Rattle.residual.specs.Rescale.{rescaled}
-use Rattle.residual.specs.Rebuild.{rescaledOf, rescaledWithDc, rebuiltSamples}
+use Rattle.residual.specs.Rebuild.{rescaledWithDc, rebuiltSamples}
 use Rattle.residual.proofs.Entry.{Accepted, accepted-legal, accepted-refused}
 use Rattle.residual.proofs.Order.{places-each}
 use borrow.Author.Needs.{needs}

@@ -6,9 +6,11 @@ use native.Mathlib.Omega.{arith}
 use lib.IntN.{ℤ, pos, _*ℤ_}
 use lib.Signed.{shrZ}
 use mir.Syntax.{w32}
-use mir.Val.{SFits, toZ, ofZ}
-use mir.ValLaws.{toZ-ofZ}
+use mir.Val.{toZ}
+use mir.Facts.{toZ-pos}
 use Rattle.quantizer.specs.Range.{periodOf}
+use Rattle.quantizer.specs.declared.Class.the-variants.{A}
+use Rattle.residual.proofs.Rescale.{scale-small}
 use Rattle.transform.proofs.Sides.{kept}
 use Rattle.dc.specs.Dc.{vA, chromaScaled, chromaValues}
 use Rattle.dc.proofs.Values.{products-within, chroma-back, scaled-by, chroma-shift}
@@ -19,11 +21,16 @@ abbrev rule : ℕ → ℤ → ℤ
 rule qp x = shrZ (x *ℤ pos (vA qp) *ℤ pos (2 ^ periodOf qp)) 2
 
 -- the scale, as it is read back
-scale-is : (c : tie.After-scale) → toZ w32 (ofZ w32 (c .scale .result)) ≡ pos (vA (c .before .before .before .args .quantizer .qp) * 2 ^ periodOf (c .before .before .before .args .quantizer .qp))
+scale-is : (c : tie.After-scale) → toZ w32 (c .scale .result) ≡ pos (vA (c .before .before .before .args .quantizer .qp) * 2 ^ periodOf (c .before .before .before .args .quantizer .qp))
 scale-is c =
-    let f : SFits w32 (c .scale .result) = search needs in
     let qp = c .before .before .before .args .quantizer .qp in
-    toZ-ofZ w32 (c .scale .result) f ∙ c .scale .ensures ∙ ap (λ (p : ℕ). pos (vA qp * 2 ^ p)) (c .before .period .ensures)
+    ap (toZ w32) (c .scale .ensures ∙ ap (λ (p : ℕ). vA qp * 2 ^ p) (c .before .period .ensures))
+    ∙ toZ-pos w32 (omega (arith, scale-small qp (periodOf qp) (omega arith) A))
+
+cast-scale : tie.Need-cast-scale
+cast-scale c =
+    let qp = c .before .before .before .args .quantizer .qp in
+    record { sfits = omega (arith, c .scale .ensures, scale-small qp (c .before .period .result) (omega arith) A) }
 
 hadamard2-requires : tie.Need-hadamard2-requires
 hadamard2-requires c κs = search needs
@@ -59,6 +66,7 @@ chroma-values-spec =
     hadamard2-requires
     period-requires
     scale-requires
+    cast-scale
     slice-aggregate-scale-all
     scale-all-requires
     returns)

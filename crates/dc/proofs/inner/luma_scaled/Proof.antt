@@ -8,12 +8,14 @@ use lib.IntN.{ℤ, pos, _+ℤ_, _*ℤ_}
 use lib.ListN.{length, getD}
 use lib.Signed.{shrZ}
 use mir.Syntax.{w32}
-use mir.Val.{SFits, toZ, ofZ}
-use mir.ValLaws.{toZ-ofZ}
+use mir.Val.{toZ}
+use mir.Facts.{toZ-pos}
 use Rattle.lists.specs.Tab.{tab}
 use Rattle.whole.specs.Bounds.{Within}
 use Rattle.quantizer.specs.Range.{periodOf}
+use Rattle.quantizer.specs.declared.Class.the-variants.{A}
 use Rattle.residual.specs.Rescale.{scaledBy}
+use Rattle.residual.proofs.Rescale.{scale-small}
 use Rattle.dc.specs.Dc.{vA, lumaScaled}
 use Rattle.dc.proofs.Values.{products-within, scaled-low, scaled-high, scaled-by}
 use Rattle.dc.proofs.inner.luma_scaled.Statement.{statement}
@@ -27,13 +29,16 @@ numbers c = c .before .before .before .args .g
 
 -- the scale, as it is read back
 abbrev scaleOf : tie.After-scale → ℤ
-scaleOf c = toZ w32 (ofZ w32 (c .scale .result))
+scaleOf c = toZ w32 (c .scale .result)
 
 scale-is : (c : tie.After-scale) → scaleOf c ≡ pos (vA (qpOf c) * 2 ^ (periodOf (qpOf c) - 2))
 scale-is c =
-    let f : SFits w32 (c .scale .result) = search needs in
     let power = c .before .above-two .ensures ∙ ap (λ (p : ℕ). p - 2) (c .before .before .period .ensures) in
-    toZ-ofZ w32 (c .scale .result) f ∙ c .scale .ensures ∙ ap (λ (p : ℕ). pos (vA (qpOf c) * 2 ^ p)) power
+    ap (toZ w32) (c .scale .ensures ∙ ap (λ (p : ℕ). vA (qpOf c) * 2 ^ p) power)
+    ∙ toZ-pos w32 (omega (arith, scale-small (qpOf c) (periodOf (qpOf c) - 2) (omega arith) A))
+
+cast-scale : tie.Need-cast-scale
+cast-scale c = record { sfits = omega (arith, c .scale .ensures, scale-small (qpOf c) (c .before .above-two .result) (omega arith) A) }
 
 -- what each arm must know of the products, and what it has made if it adds and divides as the rule does
 small : (c : tie.After-scale) (k : ℕ) → Within 973078528 (getD (numbers c) k (pos 0) *ℤ scaleOf c)
@@ -99,6 +104,7 @@ luma-scaled-spec =
     period-requires
     above-two-requires
     scale-requires
+    cast-scale
     slice-aggregate-scale-all
     scale-all-requires
     slice-aggregate-scale-all-2

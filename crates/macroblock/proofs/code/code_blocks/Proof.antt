@@ -1,5 +1,5 @@
 -- `macroblock::code::code_blocks` meets its contract: a loop over the sixteen blocks, each with its part of the levels. Assumes nothing.
-use mathlib.Core.Path.{_≡_, refl, sym, ap, _∙_}
+use mathlib.Core.Path.{refl}
 use Prim.Native.Nat.{_-_}
 use native.Mathlib.Omega.{arith}
 use borrow.Author.Needs.{needs}

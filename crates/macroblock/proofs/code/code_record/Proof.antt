@@ -1,9 +1,8 @@
 -- `macroblock::code::code_record` meets its contract: its blocks, and then front and sum round their levels. Assumes nothing.
-use mathlib.Core.Path.{_≡_, refl, sym, ap, _∙_}
+use mathlib.Core.Path.{_≡_, refl}
 use Prim.Native.Nat.{_+_, _*_}
 use native.Mathlib.Omega.{arith}
 use borrow.Author.Needs.{needs}
-use lib.Seq.{length-take-le}
 use Rattle.record.specs.Kinds.{inFours}
 use Rattle.picture.proofs.Plane.{samples-fit}
 use Rattle.macroblock.proofs.Coding.{modes-small, record-coded}

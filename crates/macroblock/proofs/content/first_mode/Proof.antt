@@ -1,8 +1,7 @@
 -- `macroblock::content::first_mode` meets its contract: a loop that leaves at the first block whose mode does not hold. Assumes nothing.
-use mathlib.Core.Path.{_≡_, sym, ap, _∙_}
+use mathlib.Core.Path.{sym, ap, _∙_}
 use mathlib.Core.Bool.{Bool, not}
-use Prim.Native.Nat.{ℕ, _-_, _*_, _<_}
-use native.Mathlib.Omega.{arith}
+use Prim.Native.Nat.{ℕ, _-_}
 use mathlib.Core.List.{List}
 use Rattle.lists.proofs.First.{Searching, searching-none, searching-more, searching-here, searching-done}
 use Rattle.picture.specs.declared.Layout.{Layout}

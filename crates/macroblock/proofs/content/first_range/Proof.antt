@@ -1,15 +1,12 @@
 -- `macroblock::content::first_range` meets its contract: two loops that are left at the first number outside 16 bits. Assumes nothing.
-use mathlib.Core.Path.{_≡_, refl, sym, ap, _∙_}
-use mathlib.Core.Bool.{Bool, true, false, not}
+use mathlib.Core.Path.{_≡_, sym, ap, _∙_}
+use mathlib.Core.Bool.{Bool, not}
 use mathlib.Core.List.{List}
-use mathlib.Core.Logic.{⊎-elim}
-use Prim.Native.Nat.{ℕ, _-_, _<_, _≤_}
-use native.Mathlib.Omega.{arith}
+use Prim.Native.Nat.{ℕ, _-_}
 use lib.IntN.{ℤ, pos, negsuc}
 use lib.ListN.{getD}
 use mir.Syntax.{w32}
 use mir.ValLaws.{toZ-ofZ}
-use Rattle.lists.specs.First.{first}
 use Rattle.lists.proofs.First.{Searching, searching-none, searching-more, searching-here, searching-done}
 use Rattle.whole.specs.Range.{inside}
 use Rattle.residual.specs.Order.{inZigzag}

@@ -1,5 +1,5 @@
 -- `macroblock::content::rescaled` meets its contract. Assumes nothing.
-use mathlib.Core.Path.{_≡_, sym, ap, subst, _∙_}
+use mathlib.Core.Path.{sym, ap, subst, _∙_}
 use borrow.Author.Needs.{needs}
 use Rattle.whole.specs.Bounds.{Each}
 use Rattle.residual.specs.Order.{inPlaces}

@@ -1,13 +1,11 @@
 -- `macroblock::inner::rebuild_macroblock` meets its contract: a loop over the turns of its blocks. Assumes nothing.
-use mathlib.Core.Path.{_≡_, refl, sym, ap, _∙_}
-use Prim.Native.Nat.{ℕ, _-_, _≤_}
+use mathlib.Core.Path.{_≡_, _∙_}
+use Prim.Native.Nat.{_-_}
 use native.Mathlib.Omega.{arith}
 use borrow.Author.Needs.{needs}
 use lib.ListN.{length}
 use Rattle.lists.proofs.Fold.{Folding, folding-none, folding-more, folding-done}
-use Rattle.quantizer.specs.Range.{highest}
 use Rattle.quantizer.proofs.Range.{built-legal, built-refused}
-use Rattle.record.specs.Records.{qpIn}
 use Rattle.picture.specs.Plane.{planeLength, turn}
 use Rattle.macroblock.specs.Rebuild.{blockFrom}
 use Rattle.macroblock.proofs.Contents.{Fine, fine}

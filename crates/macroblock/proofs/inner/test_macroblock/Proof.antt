@@ -9,7 +9,7 @@ use Rattle.quantizer.specs.Range.{highest}
 use Rattle.quantizer.proofs.Range.{built-legal, built-refused}
 use Rattle.record.specs.Records.{qpIn}
 use Rattle.picture.proofs.Plane.{samples-fit}
-use Rattle.macroblock.specs.Content.{firstMode, firstRange}
+use Rattle.macroblock.specs.Content.{firstMode}
 use Rattle.macroblock.proofs.Contents.{quantizer-high, mode-sent, range-far, content-fine}
 use Rattle.macroblock.proofs.inner.test_macroblock.Statement.{statement}
 use Rattle.macroblock.proofs.inner.test_macroblock.Tie as tie

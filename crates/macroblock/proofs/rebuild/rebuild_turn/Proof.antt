@@ -1,9 +1,7 @@
 -- `macroblock::rebuild::rebuild_turn` meets its contract: a block's turn. Assumes nothing.
-use mathlib.Core.Path.{_≡_, refl, sym, ap, subst, _∙_}
+use mathlib.Core.Path.{sym, subst}
 use borrow.Author.Needs.{needs}
-use lib.ListN.{length}
 use Rattle.whole.specs.Bounds.{Each}
-use Rattle.macroblock.specs.Content.{modeHolds}
 use Rattle.macroblock.proofs.Rebuilding.{block-made}
 use Rattle.macroblock.proofs.Contents.{numbers-fit, holds-by}
 use Rattle.macroblock.proofs.rebuild.rebuild_turn.Statement.{statement}

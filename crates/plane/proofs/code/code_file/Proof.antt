@@ -1,5 +1,5 @@
 -- `plane::code::code_file` meets its contract: the head, and a loop over macroblocks, each over the front of what is left. Assumes nothing.
-use mathlib.Core.Path.{_≡_, refl, sym, ap, _∙_}
+use mathlib.Core.Path.{refl, ap, _∙_}
 use Prim.Native.Nat.{_+_, _*_, _-_, _≤_}
 use lib.ListN.{length}
 use Rattle.lists.proofs.Over.{length-over}

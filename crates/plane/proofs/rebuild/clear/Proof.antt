@@ -1,6 +1,6 @@
 -- `plane::rebuild::clear` meets its contract: a loop that stores 0 at each place. Assumes nothing.
 use Prim.Native.Nat.{_-_}
-use mathlib.Core.Path.{_≡_, refl, sym, ap, _∙_}
+use mathlib.Core.Path.{refl}
 use native.Mathlib.Omega.{arith}
 use lib.ListN.{length}
 use Rattle.lists.proofs.Tab.{Filling, filling-none, filling-more, filling-done}

@@ -1,11 +1,11 @@
 -- `plane::rebuild::rebuild_plane` meets its contract: a loop over macroblocks, each by its own record. Assumes nothing.
-use mathlib.Core.Path.{_≡_, refl, sym, ap, _∙_}
+use mathlib.Core.Path.{_≡_, ap, _∙_}
 use mathlib.Core.List.{List}
-use Prim.Native.Nat.{ℕ, _+_, _-_, _*_, _≤_, _<_}
+use Prim.Native.Nat.{ℕ, _+_, _-_, _*_, _≤_}
 use native.Mathlib.Omega.{arith}
 use borrow.Author.Needs.{needs}
 use lib.ListN.{length}
-use Rattle.lists.specs.Chain.{chain, pass}
+use Rattle.lists.specs.Chain.{chain}
 use Rattle.lists.proofs.Chains.{chain-pass}
 use Rattle.lists.proofs.Fold.{Folding, folding-none, folding-more, folding-done}
 use Rattle.picture.specs.Plane.{planeLength}

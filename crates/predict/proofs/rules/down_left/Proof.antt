@@ -7,7 +7,7 @@ use borrow.Author.Tests.{eq-eqb}
 use borrow.Author.Needs.{needs}
 use lib.Dec.{eqb}
 use Rattle.predict.specs.Rules.{downLeft}
-use Rattle.predict.proofs.Places.{corner-only}
+use Rattle.predict.proofs.Places.{corner-only, past-at}
 use Rattle.predict.proofs.rules.down_left.Statement.{statement}
 use Rattle.predict.proofs.rules.down_left.Tie as tie
 
@@ -15,7 +15,7 @@ returns : tie.Need-returns
 unfolding downLeft
 returns c =
     let a = c .before .before .before .before .before .before .args in
-    simp (eq-eqb (a .x) 3 (omega arith), eq-eqb (a .y) 3 (omega arith)) (c .avg3 .ensures)
+    simp (eq-eqb (a .x) 3 (omega arith), eq-eqb (a .y) 3 (omega arith), past-at) (c .avg3 .ensures)
 
 returns-2 : tie.Need-returns-2
 unfolding downLeft
@@ -23,7 +23,7 @@ returns-2 c =
     let a = c .before .before .before .args in
     let p : a .x + a .y + 1 + 2 ≡ a .x + a .y + 2 + 1 = omega arith in
     let o : (eqb (a .x) 3 && eqb (a .y) 3) ≡ false = corner-only (a .x) (a .y) (λ e. omega arith) in
-    simp o (simp p at (c .three .ensures))
+    simp (o, past-at) (simp p at (c .three .ensures))
 
 pub down-left-spec : {M : Type 1} → statement M
 down-left-spec =

@@ -1,12 +1,13 @@
 -- `predict::rules::horizontal` meets its contract. Assumes nothing.
 use borrow.Author.Needs.{needs}
 use Rattle.predict.specs.Rules.{horizontal}
+use Rattle.predict.proofs.Places.{past-at}
 use Rattle.predict.proofs.rules.horizontal.Statement.{statement}
 use Rattle.predict.proofs.rules.horizontal.Tie as tie
 
 returns : tie.Need-returns
 unfolding horizontal
-returns c = search needs
+returns c = simp past-at (search needs)
 
 pub horizontal-spec : {M : Type 1} → statement M
 horizontal-spec =

@@ -1,12 +1,13 @@
 -- `predict::rules::vertical` meets its contract. Assumes nothing.
 use borrow.Author.Needs.{needs}
 use Rattle.predict.specs.Rules.{vertical}
+use Rattle.predict.proofs.Places.{past-at}
 use Rattle.predict.proofs.rules.vertical.Statement.{statement}
 use Rattle.predict.proofs.rules.vertical.Tie as tie
 
 returns : tie.Need-returns
 unfolding vertical
-returns c = search needs
+returns c = simp past-at (search needs)
 
 pub vertical-spec : {M : Type 1} → statement M
 vertical-spec =

@@ -5,6 +5,7 @@ use native.Mathlib.Omega.{arith}
 use borrow.Author.Tests.{eq-eqb, ne-eqb}
 use borrow.Author.Needs.{needs}
 use Rattle.predict.specs.Rules.{verticalLeft}
+use Rattle.predict.proofs.Places.{past-at, even-row, odd-row}
 use Rattle.predict.proofs.rules.vertical_left.Statement.{statement}
 use Rattle.predict.proofs.rules.vertical_left.Tie as tie
 
@@ -12,14 +13,14 @@ returns : tie.Need-returns
 unfolding verticalLeft
 returns c =
     let a = c .before .before .before .args in
-    simp (eq-eqb (a .y % 2) 0 (omega arith)) (c .two .ensures)
+    simp (eq-eqb (a .y % 2) 0 (even-row (a .y) (c .before .match .keys1)), past-at) (c .two .ensures)
 
 returns-2 : tie.Need-returns-2
 unfolding verticalLeft
 returns-2 c =
     let a = c .before .before .before .args in
     let p : a .x + a .y / 2 + 1 + 2 ≡ a .x + a .y / 2 + 2 + 1 = omega arith in
-    simp (ne-eqb (a .y % 2) 0 (λ e. omega arith)) (simp p at (c .three .ensures))
+    simp (ne-eqb (a .y % 2) 0 (odd-row (a .y) (omega arith) (c .before .match .rest .1)), past-at) (simp p at (c .three .ensures))
 
 pub vertical-left-spec : {M : Type 1} → statement M
 vertical-left-spec =

@@ -1,6 +1,5 @@
 -- `quantizer::Quantizer::new` meets its contract: no number is below 0, one above 51 is refused. Assumes nothing.
 use borrow.Author.Needs.{needs}
-use mathlib.Core.Path.{refl}
 use Rattle.refusal.proofs.Same.{says}
 use Rattle.quantizer.proofs.Range.{legal, high}
 use Rattle.quantizer.proofs.Quantizer.new.Statement.{statement}

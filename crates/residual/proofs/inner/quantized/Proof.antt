@@ -1,6 +1,6 @@
 -- `residual::inner::quantized` meets its contract: forward, then a level for each place. Assumes nothing.
 use Rattle.transform.specs.Forward.{forward}
-use mathlib.Core.Path.{_≡_, sym, ap, subst, _∙_}
+use mathlib.Core.Path.{sym, ap, subst, _∙_}
 use mathlib.Core.List.{List}
 use Prim.Native.Nat.{ℕ, _+_, _≤_}
 use native.Mathlib.Omega.{arith}

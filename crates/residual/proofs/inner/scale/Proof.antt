@@ -4,9 +4,6 @@ use mathlib.Core.Path.{_≡_, ap, _∙_}
 use Prim.Native.Nat.{ℕ, _*_, _%_, _^_, _≤_}
 use native.Mathlib.Nat.{mod-eq-of-lt}
 use native.Mathlib.Omega.{arith}
-use mir.Syntax.{w32}
-use mir.Val.{toZ}
-use mir.Facts.{toZ-pos}
 use Rattle.quantizer.specs.Range.{remainderOf}
 use Rattle.quantizer.specs.Tables.{vOf}
 use Rattle.residual.proofs.Rescale.{scale-small}
@@ -34,11 +31,8 @@ cast-v c = search needs
 shl-result : tie.Need-shl-result
 shl-result c = search needs
 
-cast-result : tie.Need-cast-result
-cast-result c = rw (shifted c) (record { sfits = omega (arith, small c) })
-
 returns : tie.Need-returns
-returns c = ap (toZ w32) (shifted c) ∙ toZ-pos w32 {n = product c} (omega (arith, small c))
+returns c = shifted c
 
 pub scale-spec : {M : Type 1} → statement M
-scale-spec = tie.close (tie.spec v-requires cast-v shl-result cast-result returns)
+scale-spec = tie.close (tie.spec v-requires cast-v shl-result returns)

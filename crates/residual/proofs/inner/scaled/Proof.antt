@@ -2,6 +2,7 @@
 use mathlib.Core.Path.{refl}
 use mathlib.Core.List.{List, [], _∷_}
 use Prim.Native.Nat.{ℕ}
+use native.Mathlib.Omega.{arith}
 use lib.IntN.{ℤ, pos}
 use lib.ListN.{getD}
 use mir.Syntax.{w32}
@@ -11,14 +12,17 @@ use Rattle.residual.proofs.inner.scaled.Statement.{statement}
 use Rattle.residual.proofs.inner.scaled.Tie as tie
 
 abbrev numbers : tie.Start → List ℤ
-numbers c = c .args .level ∷ c .args .scale ∷ []
+numbers c = c .args .level ∷ pos (c .args .scale) ∷ []
 
 bounds : List ℕ
 bounds = 32768 ∷ 7424 ∷ []
 
 small : (c : tie.Start) (i : ℕ) → Within (at-most bounds i) (getD (numbers c) i (pos 0))
 unfolding bounds
-small c = bounded-at bounds (numbers c) refl (c .pre .0, (c .pre .1, tt))
+small c = bounded-at bounds (numbers c) refl (c .pre .0, (record { size = c .pre .1 }, tt))
+
+cast-result : tie.Need-cast-result
+cast-result c = record { sfits = omega (arith, c .pre .1) }
 
 mul-result : tie.Need-mul-result
 unfolding bounds
@@ -29,4 +33,4 @@ unfolding bounds
 returns c = exact-of w32 (at-most bounds) (numbers c) (small c) (mul (inp 0) (inp 1)) tt
 
 pub scaled-spec : {M : Type 1} → statement M
-scaled-spec = tie.close (tie.spec mul-result returns)
+scaled-spec = tie.close (tie.spec cast-result mul-result returns)

@@ -1,6 +1,6 @@
 -- `vectors::recording::run` is safe and ends: each count grows by one a step at the most. Assumes nothing.
 use mathlib.Core.Path.{_≡_}
-use Prim.Native.Nat.{_≤_, _<_, _-_}
+use Prim.Native.Nat.{_≤_, _-_}
 use lib.ListN.{length}
 use borrow.Author.Needs.{needs}
 use Rattle.vectors.proofs.recording.run.Statement.{statement}

@@ -1,11 +1,11 @@
--- `predict::choice::best` meets its contract: a loop that looks at each mode. Assumes nothing.
+-- `predict::search::best` meets its contract: a loop that looks at each mode. Assumes nothing.
 use Prim.Native.Nat.{_-_}
 use native.Mathlib.Omega.{arith}
 use borrow.Author.Needs.{needs}
+use Rattle.choice.proofs.Looking.{Looking, looking-none, looking-more, looking-done}
 use Rattle.predict.specs.Code.{areaCost}
-use Rattle.predict.proofs.Area.{Looking, looking-none, looking-more, looking-done}
-use Rattle.predict.proofs.choice.best.Statement.{statement}
-use Rattle.predict.proofs.choice.best.Tie as tie
+use Rattle.predict.proofs.search.best.Statement.{statement}
+use Rattle.predict.proofs.search.best.Tie as tie
 
 abbrev Inv-loop : tie.InvT-loop
 Inv-loop area flags samples best₀ mode₀ best mode = Looking 9 (areaCost area flags samples) best mode
@@ -19,7 +19,8 @@ best-spec =
     (tie.spec
     Inv-loop
     μ-loop
-    (λ c. looking-none _ _)
+    (λ c κs. search needs)
+    (λ c. looking-none _ _ (c .unsettled .ensures))
     (λ c κs. omega arith)
     (λ c. search needs)
     (λ c. search needs)

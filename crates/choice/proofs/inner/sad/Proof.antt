@@ -1,25 +1,22 @@
--- `predict::choice::sad` meets its contract: a loop that adds distances of at most 255. Assumes nothing.
-use mathlib.Core.Path.{_∙_}
+-- `choice::inner::sad` meets its contract: a loop that adds distances of at most 255. Assumes nothing.
 use Prim.Native.Nat.{ℕ, _-_}
 use native.Mathlib.Omega.{arith}
 use borrow.Author.Needs.{needs}
-use lib.ListN.{getD}
+use lib.ListN.{length, getD}
 use Rattle.lists.specs.Total.{distance}
 use Rattle.lists.proofs.Total.{Totalling, totalling-none, totalling-more, totalling-done}
-use Rattle.predict.specs.Choice.{sad}
-use Rattle.predict.proofs.choice.sad.Statement.{statement}
-use Rattle.predict.proofs.choice.sad.Tie as tie
+use Rattle.choice.specs.Choice.{sad}
+use Rattle.choice.proofs.inner.sad.Statement.{statement}
+use Rattle.choice.proofs.inner.sad.Tie as tie
 
 abbrev Inv-loop : tie.InvT-loop
-Inv-loop a b sum₀ k₀ sum k = Totalling 16 (λ (j : ℕ). distance (getD a j 0) (getD b j 0)) 255 sum k
+Inv-loop a b sum₀ k₀ end₀ sum k = Totalling (length a) (λ (j : ℕ). distance (getD a j 0) (getD b j 0)) 255 sum k
 
 abbrev μ-loop : tie.MeasureT-loop
-μ-loop a b sum₀ k₀ sum k = 16 - k
+μ-loop a b sum₀ k₀ end₀ sum k = length a - k
 
 again : tie.Need-loop-again Inv-loop μ-loop
-again c =
-    let D = c .before in
-    totalling-more _ _ _ (D .before .before .before .before .loop .inv) (omega arith) (c .wide .ensures .0 ∙ D .distance .ensures) (omega (arith, c .wide .ensures .1))
+again c = totalling-more _ _ _ (c .before .before .before .before .loop .inv) (omega arith) (c .distance .ensures) (search needs)
 
 returns : tie.Need-returns Inv-loop μ-loop
 unfolding sad
@@ -35,7 +32,7 @@ sad-spec =
     (λ c. search needs)
     (λ c. search needs)
     (λ c κs. search needs)
-    (λ c κs. search needs)
+    (λ c. search needs)
     (λ c. search needs)
     (λ c. search needs)
     (λ c. search needs)

@@ -1,0 +1,3 @@
+pub mod Least
+pub mod Looking
+pub mod Unique
