@@ -12,9 +12,9 @@ use Rattle.lists.proofs.Tab.{length-tab}
 use Rattle.whole.specs.Bounds.{Each}
 use Rattle.whole.proofs.Lists.{each-less}
 use Rattle.quantizer.specs.Range.{highest}
-use Rattle.predict.specs.Samples.{Round}
-use Rattle.predict.specs.Entry.{Picks, bestSamples}
-use Rattle.predict.specs.declared.inner.Choice.{Choice}
+use Rattle.intra4.specs.Samples.{Round}
+use Rattle.intra4.specs.Entry.{Picks, bestSamples}
+use Rattle.intra4.specs.declared.inner.Choice.{Choice}
 use Rattle.residual.specs.Levels.{quantized, levelsOf}
 use Rattle.residual.specs.Order.{inZigzag}
 use Rattle.residual.specs.Rescale.{rescaled}

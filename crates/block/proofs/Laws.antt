@@ -19,11 +19,11 @@ use Rattle.whole.proofs.Lists.{each-tab}
 use Rattle.whole.proofs.Order.{clip-le}
 use Rattle.whole.proofs.Steps.{each-at}
 use Rattle.quantizer.specs.Range.{highest}
-use Rattle.predict.specs.Samples.{mask}
-use Rattle.predict.specs.Rules as rules
-use Rattle.predict.specs.Choice.{Best, chosen}
-use Rattle.predict.specs.Entry.{bestSamples}
-use Rattle.predict.proofs.Bytes.{best-bytes, chosen-mode}
+use Rattle.intra4.specs.Samples.{mask}
+use Rattle.intra4.specs.Rules as rules
+use Rattle.intra4.specs.Choice.{Best, chosen}
+use Rattle.intra4.specs.Entry.{bestSamples}
+use Rattle.intra4.proofs.Bytes.{best-bytes, chosen-mode}
 use Rattle.residual.specs.Rebuild.{added, rebuiltSamples, rescaledOf}
 use Rattle.residual.proofs.Order.{length-zigzag}
 use Rattle.residual.proofs.Own.{own-levels-in-range, own-numbers-fit}

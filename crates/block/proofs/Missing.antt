@@ -6,7 +6,7 @@
 use mathlib.Core.Path.{_≡_, sym, ap, _∙_}
 use mathlib.Core.List.{List}
 use Prim.Native.Nat.{ℕ}
-use borrow.Author.Tests.{eqb-true, leb-true}
+use borrow.Author.Tests.{eqb-true}
 use lib.IntN.{ℤ}
 use lib.ListN.{length}
 use Rattle.lists.specs.Chain.{pass, chain}
@@ -14,29 +14,29 @@ use Rattle.lists.specs.Bytes.{Bytes}
 use Rattle.lists.proofs.Chain.{chain-exactly-if}
 use Rattle.refusal.proofs.Same.{says-same, says}
 use Rattle.refusal.specs.declared.Answer.the-variants.{Done}
-use Rattle.quantizer.specs.Range.{highest}
-use Rattle.predict.specs.Samples.{mask, AgreeWherePresent}
-use Rattle.predict.proofs.Bytes.{chosen-sixteen}
-use Rattle.predict.proofs.Missing.{same-mask}
-use Rattle.predict.specs.Rules as rules
-use Rattle.predict.specs.Choice.{at, chosen}
-use Rattle.predict.specs.Entry.{bestSamples}
+use Rattle.quantizer.proofs.Range.{number-legal}
+use Rattle.intra4.specs.Samples.{mask, AgreeWherePresent}
+use Rattle.intra4.proofs.Bytes.{chosen-sixteen}
+use Rattle.intra4.proofs.Missing.{same-mask}
+use Rattle.intra4.specs.Rules as rules
+use Rattle.intra4.specs.Choice.{at, chosen}
+use Rattle.intra4.specs.Entry.{bestSamples}
+use Rattle.intra4.specs.declared.Chosen.{Chosen}
+use Rattle.intra4.specs.declared.Chosen.the-variants.{Mode}
+use Rattle.intra4.proofs.Outcome.{same-chosen}
 use Rattle.residual.specs.Entry.{Rebuilds, rebuildTests}
 use Rattle.residual.specs.Rebuild.{rebuiltSamples, rescaledOf}
 use Rattle.residual.proofs.Own.{own-levels-pass}
 use Rattle.block.specs.Entry.{Codes, codeTests}
-use Rattle.block.specs.declared.Coded.{Coded}
 use Rattle.block.proofs.Laws.{own-residual-small}
-use Rattle.block.proofs.Outcome.{same-coded}
 use Rattle.block.specs.Block.{residualOf, predictionOf, codedLevels, codedSamples}
-use Rattle.block.specs.declared.Coded.the-variants.{Mode}
 
 pub missing-has-no-value : (qp f : ℕ) (n n′ s : List ℕ) (l : List ℤ) (o : List ℕ) → AgreeWherePresent f n n′
-    → (r r′ : Coded) (l₁ l₂ : List ℤ) (o₁ o₂ : List ℕ) → Codes qp f n s l o r l₁ o₁ → Codes qp f n′ s l o r′ l₂ o₂ → (r ≡ r′) × (l₁ ≡ l₂) × (o₁ ≡ o₂)
+    → (r r′ : Chosen) (l₁ l₂ : List ℤ) (o₁ o₂ : List ℕ) → Codes qp f n s l o r l₁ o₁ → Codes qp f n′ s l o r′ l₂ o₂ → (r ≡ r′) × (l₁ ≡ l₂) × (o₁ ≡ o₂)
 missing-has-no-value qp f n n′ s l o g r r′ l₁ l₂ o₁ o₂ p q =
     let k = g .long in
     let m = same-mask f n n′ g in (
-      same-coded r r′ (says-same (p .says) ∙ rw k (sym (says-same (q .says)))) (p .best ∙ rw (k, m) (sym (q .best))),
+      same-chosen r r′ (says-same (p .says) ∙ rw k (sym (says-same (q .says)))) (p .best ∙ rw (k, m) (sym (q .best))),
       p .levels ∙ rw (k, m) (sym (q .levels)),
       p .rebuilt ∙ rw (k, m) (sym (q .rebuilt)),
     )
@@ -48,7 +48,7 @@ rebuilds qp f n s l o m sad l′ o′ p near own out room =
     let v : chain (codeTests qp f n s l o) ≡ pass = sym (says-same (p .says)) in
     let all = chain-exactly-if (codeTests qp f n s l o) .passes .0 v in
     let few = eqb-true (length n) 13 (all .0) in
-    let legal = leb-true qp highest (all .1 .1 .1 .1 .1 .0) in
+    let legal = number-legal 0 qp (all .1 .1 .1 .1 .1 .0) in
     let best : at m sad ≡ chosen (mask n f) s = p .best ∙ rw v in
     let y : predictionOf (mask n f) s ≡ rules.samplesOf (rules.predicted (mask n f) m) = ap (bestSamples (mask n f)) (sym best) in
     let is-l : l′ ≡ codedLevels qp (mask n f) s = p .levels ∙ rw v in

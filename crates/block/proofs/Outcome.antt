@@ -1,6 +1,5 @@
 -- What the tests of `code_block` come to, case by case, and when it refuses.
 --     code-block-refuses-exactly-if
---     same-coded     an answer is known by what it says and what it brings
 --     same-block     a block by value is known by what it carries
 -- Assumes nothing.
 use mathlib.Core.Path.{_≡_, sym, ap, subst, _∙_}
@@ -13,19 +12,15 @@ use Rattle.lists.specs.Chain.{pass, stop, chain, ExactlyIf}
 use Rattle.refusal.proofs.Same.{says, says-exactly-if}
 use Rattle.refusal.specs.declared.Refusal.{Refusal}
 use Rattle.refusal.specs.declared.Refusal.the-variants as refusal
-use Rattle.quantizer.specs.Range.{highest}
-use Rattle.predict.specs.Samples.{Round, mask}
-use Rattle.predict.specs.Choice.{at}
-use Rattle.block.specs.Entry.{codeTests, saidCoded, bestCoded, Codes, Carries}
-use Rattle.block.specs.declared.Coded.{Coded}
-use Rattle.block.specs.declared.Coded.the-variants.{Mode, Refused}
+use Rattle.quantizer.specs.Range.{highest, numberTests}
+use Rattle.quantizer.proofs.Range.{number-passes}
+use Rattle.intra4.specs.Samples.{Round, mask}
+use Rattle.intra4.specs.Choice.{at}
+use Rattle.intra4.specs.Entry.{saidChosen}
+use Rattle.intra4.specs.declared.Chosen.{Chosen}
+use Rattle.intra4.specs.declared.Chosen.the-variants.{Mode, Refused}
+use Rattle.block.specs.Entry.{codeTests, Codes, Carries}
 use Rattle.block.specs.declared.inner.Block.{Block}
-
-pub same-coded : (x y : Coded) → saidCoded x ≡ saidCoded y → bestCoded x ≡ bestCoded y → x ≡ y
-same-coded (Mode m s) (Mode k u) e g = let p : m ≡ k = cc in let q : s ≡ u = cc in λ i. Mode (p i) (q i)
-same-coded (Mode m s) (Refused r) e g = cc
-same-coded (Refused r) (Mode k u) e g = cc
-same-coded (Refused r) (Refused t) e g = let p : r ≡ t = cc in ap Refused p
 
 pub same-block : {qp : ℕ} {round : Round} {samples : List ℕ} (x y : Block) → Carries qp round samples x → Carries qp round samples y → x ≡ y
 same-block x y p q =
@@ -37,7 +32,7 @@ same-block x y p q =
     λ i. record { mode = m i; sad = s i; levels = l i; rebuilt = b i }
 
 module _ (qp f : ℕ) (n s : List ℕ) (l : List ℤ) (o : List ℕ) where
-  pub code-block-refuses-exactly-if : (r : Coded) (l′ : List ℤ) (o′ : List ℕ) → Codes qp f n s l o r l′ o′ → ExactlyIf (codeTests qp f n s l o) (saidCoded r)
+  pub code-block-refuses-exactly-if : (r : Chosen) (l′ : List ℤ) (o′ : List ℕ) → Codes qp f n s l o r l′ o′ → ExactlyIf (codeTests qp f n s l o) (saidChosen r)
   code-block-refuses-exactly-if r l′ o′ p = says-exactly-if (codeTests qp f n s l o) (p .says)
 
   refused : (r : Refusal) → chain (codeTests qp f n s l o) ≡ stop r → Codes qp f n s l o (Refused r) l o
@@ -65,10 +60,9 @@ module _ (qp f : ℕ) (n s : List ℕ) (l : List ℤ) (o : List ℕ) where
               (simp (eq-eqb (length n) 13 a, eq-eqb (length s) 16 b, eq-eqb (length l) 16 c, eq-eqb (length o) 16 d, lt-leb f 15 h))
 
           module _ (g : f ≤ 15) where
-            pub high-quantizer : highest < qp → Codes qp f n s l o (Refused (refusal.Quantizer 0)) l o
-            high-quantizer h =
-                refused (refusal.Quantizer 0)
-                (simp (eq-eqb (length n) 13 a, eq-eqb (length s) 16 b, eq-eqb (length l) 16 c, eq-eqb (length o) 16 d, le-leb f 15 g, lt-leb qp highest h))
+            pub quantizer-refused : {r : Refusal} → chain (numberTests qp) ≡ stop r → Codes qp f n s l o (Refused r) l o
+            quantizer-refused {r} e =
+                refused r (rw (eq-eqb (length n) 13 a, eq-eqb (length s) 16 b, eq-eqb (length l) 16 c, eq-eqb (length o) 16 d, le-leb f 15 g) e)
 
             -- k is the number that the quantizer in hand has
             pub coded-done : {k : ℕ} → k ≡ qp → qp ≤ highest → (x : Block) {l′ : List ℤ} {o′ : List ℕ} → Carries k (mask n f) s x → l′ ≡ x .levels → o′ ≡ x .rebuilt
@@ -76,5 +70,5 @@ module _ (qp f : ℕ) (n s : List ℕ) (l : List ℤ) (o : List ℕ) where
             coded-done is q x {l′} {o′} made u v =
                 let p = subst (λ (i : ℕ). Carries i (mask n f) s x) is made in
                 let e : chain (codeTests qp f n s l o) ≡ pass =
-                simp (eq-eqb (length n) 13 a, eq-eqb (length s) 16 b, eq-eqb (length l) 16 c, eq-eqb (length o) 16 d, le-leb f 15 g, le-leb qp highest q) in
+                simp (eq-eqb (length n) 13 a, eq-eqb (length s) 16 b, eq-eqb (length l) 16 c, eq-eqb (length o) 16 d, le-leb f 15 g, number-passes 0 qp q) in
                 record { says = says (sym e); best = simp e (p .best); levels = simp e (u ∙ p .levels); rebuilt = simp e (v ∙ p .rebuilt) }

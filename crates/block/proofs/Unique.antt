@@ -6,7 +6,8 @@ use denote.Ref.{now}
 use lib.IntN.{ℤ}
 use Rattle.unique.specs.Unique.{Unique}
 use Rattle.refusal.proofs.Same.{says-same}
-use Rattle.block.proofs.Outcome.{same-coded, same-block}
+use Rattle.intra4.proofs.Outcome.{same-chosen}
+use Rattle.block.proofs.Outcome.{same-block}
 use Rattle.block.proofs.code_block.Kinds as code-block
 use Rattle.block.proofs.code_block.Reads as code-block-reads
 use Rattle.block.proofs.inner.coded.Kinds as coded
@@ -17,7 +18,7 @@ pub code-block-unique : Unique 4 code-block.ps code-block.r code-block-reads.Lea
 code-block-unique κs a x y e f p q =
     let l = p .levels ∙ sym (q .levels) in
     let o = p .rebuilt ∙ sym (q .rebuilt) in
-    (same-coded x y (says-same (p .says) ∙ sym (says-same (q .says))) (p .best ∙ sym (q .best)), λ i. (l i, o i))
+    (same-chosen x y (says-same (p .says) ∙ sym (says-same (q .says))) (p .best ∙ sym (q .best)), λ i. (l i, o i))
 
 pub coded-unique : Unique 2 coded.ps coded.r coded-reads.Learnt (Unit {0}) (λ κs e. tt)
 coded-unique κs a x y e f p q = (same-block x y p q, refl)

@@ -11,9 +11,9 @@ use Rattle.refusal.specs.Number.{number}
 use Rattle.whole.specs.Clip.{clip}
 use Rattle.transform.specs.Forward.{forward}
 use Rattle.transform.specs.Inverse.{inverse}
-use Rattle.predict.specs.Samples.{bitOf, mask}
-use Rattle.predict.specs.Rules.{vertical, horizontal, downLeft, downRight, verticalRight, verticalLeft, horizontalUp, predicted}
-use Rattle.predict.specs.Choice.{at, sad, bestOf, chosen}
+use Rattle.intra4.specs.Samples.{bitOf, mask}
+use Rattle.intra4.specs.Rules.{vertical, horizontal, downLeft, downRight, verticalRight, verticalLeft, horizontalUp, predicted}
+use Rattle.intra4.specs.Choice.{at, sad, bestOf, chosen}
 use Rattle.residual.specs.Levels.{quantized}
 use Rattle.residual.specs.Order.{inZigzag, inPlaces}
 use Rattle.residual.specs.Quantize.{levelBy}

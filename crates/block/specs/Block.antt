@@ -4,9 +4,9 @@ use Prim.Native.Nat.{ℕ}
 use lib.IntN.{ℤ, pos, _-ℤ_}
 use lib.ListN.{getD}
 use Rattle.lists.specs.Tab.{tab}
-use Rattle.predict.specs.Samples.{Round}
-use Rattle.predict.specs.Choice.{Best, nothing, at, chosen}
-use Rattle.predict.specs.Entry.{bestSamples}
+use Rattle.intra4.specs.Samples.{Round}
+use Rattle.intra4.specs.Choice.{Best, nothing, at, chosen}
+use Rattle.intra4.specs.Entry.{bestSamples}
 use Rattle.residual.specs.Levels.{levelsOf}
 use Rattle.residual.specs.Rebuild.{rescaledOf, rebuiltSamples}
 

@@ -3,38 +3,30 @@ use mathlib.Core.Path.{_≡_}
 use mathlib.Core.List.{List, [], _∷_}
 use Prim.Native.Nat.{ℕ}
 use lib.IntN.{ℤ}
-use Rattle.lists.specs.Chain.{Test, Verdict, pass, stop, chain, written}
+use lib.ListN.{length}
+use Rattle.lists.specs.Chain.{Test, chain, written}
 use Rattle.whole.specs.Bounds.{Each}
 use Rattle.refusal.specs.Number.{Says}
+use Rattle.refusal.specs.Tests.{lengthTest, flagsTest}
 use Rattle.refusal.specs.declared.Refusal.{Refusal}
-use Rattle.predict.specs.Samples.{Round, mask}
-use Rattle.predict.specs.Choice.{Best, nothing, at, chosen}
-use Rattle.predict.specs.Entry.{flagsTest}
-use Rattle.residual.specs.Entry.{lengthTest, quantizerTest}
+use Rattle.intra4.specs.Samples.{Round, mask}
+use Rattle.quantizer.specs.Range.{quantizerTest}
+use Rattle.intra4.specs.Choice.{nothing, at, chosen}
+use Rattle.intra4.specs.Entry.{saidChosen, bestIn}
+use Rattle.intra4.specs.declared.Chosen.{Chosen}
 use Rattle.block.specs.Block.{codedLevels, codedSamples}
-use Rattle.block.specs.declared.Coded.{Coded}
-use Rattle.block.specs.declared.Coded.the-variants.{Mode, Refused}
 use Rattle.block.specs.declared.inner.Block.{Block}
 
 -- LENGTH: thirteen neighbours, sixteen samples, levels and rebuilt samples; then FLAGS, then QUANTIZER
 abbrev pub codeTests : (qp flags : ℕ) (neighbours samples : List ℕ) (levels : List ℤ) (rebuilt : List ℕ) → List (Test Refusal)
 codeTests qp flags neighbours samples levels rebuilt =
-    lengthTest 13 neighbours ∷ lengthTest 16 samples ∷ lengthTest 16 levels ∷ lengthTest 16 rebuilt
-    ∷ flagsTest flags ∷ quantizerTest qp ∷ []
-
--- what an answer says, and the mode and the SAD that come back (nothing where it refuses)
-abbrev pub saidCoded : Coded → Verdict Refusal
-saidCoded (Mode mode sad) = pass
-saidCoded (Refused r) = stop r
-
-abbrev pub bestCoded : Coded → Best
-bestCoded (Mode mode sad) = at mode sad
-bestCoded (Refused r) = nothing
+    lengthTest 13 (length neighbours) ∷ lengthTest 16 (length samples) ∷ lengthTest 16 (length levels) ∷ lengthTest 16 (length rebuilt)
+    ∷ flagsTest flags ∷ quantizerTest 0 qp ∷ []
 
 -- what `code_block` makes of the outputs l and o as they were: l′ and o′
-pub record Codes (qp flags : ℕ) (neighbours samples : List ℕ) (l : List ℤ) (o : List ℕ) (r : Coded) (l′ : List ℤ) (o′ : List ℕ) : Type 0 where
-  pub says : Says (saidCoded r) (chain (codeTests qp flags neighbours samples l o))
-  pub best : bestCoded r ≡ written (chain (codeTests qp flags neighbours samples l o)) (chosen (mask neighbours flags) samples) nothing
+pub record Codes (qp flags : ℕ) (neighbours samples : List ℕ) (l : List ℤ) (o : List ℕ) (r : Chosen) (l′ : List ℤ) (o′ : List ℕ) : Type 0 where
+  pub says : Says (saidChosen r) (chain (codeTests qp flags neighbours samples l o))
+  pub best : bestIn r ≡ written (chain (codeTests qp flags neighbours samples l o)) (chosen (mask neighbours flags) samples) nothing
   pub levels : l′ ≡ written (chain (codeTests qp flags neighbours samples l o)) (codedLevels qp (mask neighbours flags) samples) l
   pub rebuilt : o′ ≡ written (chain (codeTests qp flags neighbours samples l o)) (codedSamples qp (mask neighbours flags) samples) o
 

@@ -8,8 +8,8 @@ use lib.ListN.{length, getD}
 use mir.Syntax.{w16}
 use mir.Val.{SFits}
 use Rattle.lists.specs.Bytes.{Bytes}
-use Rattle.predict.specs.Samples.{mask}
-use Rattle.predict.specs.Rules as rules
+use Rattle.intra4.specs.Samples.{mask}
+use Rattle.intra4.specs.Rules as rules
 use Rattle.residual.specs.Entry.{firstWide}
 use Rattle.residual.specs.Order.{inZigzag}
 use Rattle.residual.specs.Rebuild.{rebuiltSamples, rescaledOf}

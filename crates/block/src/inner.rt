@@ -5,7 +5,7 @@ ghost use lib.IntN.{pos, _-ℤ_};
 ghost use lib.ListN.{length};
 ghost use Rattle.whole.specs.Bounds.{Within, Each};
 ghost use Rattle.quantizer.specs.Range.{highest};
-ghost use Rattle.predict.specs.Samples.{mask};
+ghost use Rattle.intra4.specs.Samples.{mask};
 ghost use Rattle.block.specs.Block.{residualOf};
 ghost use Rattle.block.specs.Entry.{Carries};
 use quantizer::Quantizer;
@@ -41,7 +41,7 @@ pub fn coded(quantizer: Quantizer, neighbours: &[u8], flags: u8, samples: &[u8])
     requires { ⌜ (quantizer .qp ≤ highest) × (length (now neighbours) ≡ 13) × (length (now samples) ≡ 16) ⌝ }
     ensures { λ r. ⌜ Carries (quantizer .qp) (mask (now (neighbours .entry)) flags) (now (samples .entry)) r ⌝ }
 {
-    let choice = predict::inner::chosen(neighbours, flags, samples);
+    let choice = intra4::inner::chosen(neighbours, flags, samples);
     let prediction = choice.prediction;
     let levels = residual::inner::quantized(quantizer, lacking(samples, prediction));
     let numbers = residual::inner::rescaled(quantizer, levels);

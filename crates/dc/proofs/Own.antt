@@ -11,14 +11,14 @@ use mathlib.Core.List.{List, [], _∷_, _++_}
 use Prim.Native.Nat.{ℕ, _+_, _*_, _/_, _^_, _<_, _≤_}
 use native.Mathlib.Nat.{mul-le-mul-right, mul-le-mul-left, le-div-iff-mul-le}
 use native.Mathlib.Omega.{arith}
-use lib.Dec.{T, eqb, leb, leb→le}
+use lib.Dec.{T, leb, leb→le}
 use lib.IntN.{ℤ, pos, natAbs, _+ℤ_, _-ℤ_, _*ℤ_, +ℤ-idr, -ℤ-+ℤ-cancel}
 use lib.ListN.{length, getD}
 use lib.Pow.{pow-pos}
 use lib.Signed.{shrZ}
-use Rattle.lists.specs.Chain.{test, Verdict, chain, pass, stop}
+use Rattle.lists.specs.Chain.{scanTest, Verdict, chain, pass, stop}
 use Rattle.lists.specs.Every.{every}
-use Rattle.lists.proofs.Chain.{chain-passed, chain-refused}
+use Rattle.lists.proofs.Chain.{chain-refused, scan-none}
 use Rattle.lists.proofs.Every.{every-at}
 use Rattle.lists.proofs.Tab.{getD-tab, length-tab}
 use Rattle.whole.specs.Bounds.{Within, Each}
@@ -43,7 +43,7 @@ use Rattle.residual.proofs.Order.{length-zigzag, places-again, in-zigzag-each}
 use Rattle.residual.proofs.Rescale.{scaled-within}
 use Rattle.dc.specs.Dc.{mfA, vA, quantizedDc, lumaLevels, lumaScaled, lumaValues, chromaLevels, chromaScaled, chromaValues}
 use Rattle.dc.specs.Entry.{lumaLevelsTests, lumaValuesTests, chromaLevelsTests, chromaValuesTests}
-use Rattle.dc.proofs.Entry.{place-none, codable, dc-values-fine}
+use Rattle.dc.proofs.Entry.{codable, dc-values-fine}
 use Rattle.dc.proofs.Levels.{luma-levels-each, luma-levels-length, chroma-levels-each, chroma-levels-length}
 use Rattle.dc.proofs.Values.{chroma-values-length}
 
@@ -132,16 +132,15 @@ own-dc-accepted qp dc out back passed room =
 
 -- and a test of that behind the luma coder's own would never fail, whatever it refused with
 pub own-test-idle : (qp : ℕ) (dc out : List ℤ) (r : Refusal)
-    → chain (lumaLevelsTests qp dc out ++ (test (eqb (firstWide (inZigzag (lumaValues qp (lumaLevels qp dc)))) 16) r ∷ [])) ≡ chain (lumaLevelsTests qp dc out)
+    → chain (lumaLevelsTests qp dc out ++ (scanTest 16 (firstWide (inZigzag (lumaValues qp (lumaLevels qp dc)))) (λ k. r) ∷ [])) ≡ chain (lumaLevelsTests qp dc out)
 own-test-idle qp dc out r = by (chain (lumaLevelsTests qp dc out)) refl
   where
     by : (v : Verdict Refusal) → chain (lumaLevelsTests qp dc out) ≡ v
-        → chain (lumaLevelsTests qp dc out ++ (test (eqb (firstWide (inZigzag (lumaValues qp (lumaLevels qp dc)))) 16) r ∷ [])) ≡ v
-    by (stop q) e = chain-refused (lumaLevelsTests qp dc out) (test (eqb (firstWide (inZigzag (lumaValues qp (lumaLevels qp dc)))) 16) r ∷ []) q e
+        → chain (lumaLevelsTests qp dc out ++ (scanTest 16 (firstWide (inZigzag (lumaValues qp (lumaLevels qp dc)))) (λ k. r) ∷ [])) ≡ v
+    by (stop q) e = chain-refused (lumaLevelsTests qp dc out) (scanTest 16 (firstWide (inZigzag (lumaValues qp (lumaLevels qp dc)))) (λ k. r) ∷ []) q e
     by pass e =
         let given = codable 16 qp dc out e in
-        chain-passed (lumaLevelsTests qp dc out) (test (eqb (firstWide (inZigzag (lumaValues qp (lumaLevels qp dc)))) 16) r ∷ []) e
-        ∙ place-none 16 (firstWide (inZigzag (lumaValues qp (lumaLevels qp dc)))) r [] (own-dc-fits qp (given .legal) dc (given .long) (given .small))
+        scan-none (lumaLevelsTests qp dc out) e 16 (firstWide (inZigzag (lumaValues qp (lumaLevels qp dc)))) (λ k. r) [] (own-dc-fits qp (given .legal) dc (given .long) (given .small))
 
 -- ---- chroma
 

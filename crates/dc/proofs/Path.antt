@@ -3,12 +3,13 @@
 --     luma-path, chroma-path     so with the DC value that comes back for the block
 -- Assumes nothing.
 use mathlib.Core.Path.{_≡_, _∙_}
-use mathlib.Core.List.{List}
+use mathlib.Core.List.{List, []}
 use Prim.Native.Nat.{ℕ, _≤_, _<_}
 use native.Mathlib.Omega.{arith}
 use lib.IntN.{ℤ, pos}
 use lib.ListN.{length, getD}
 use Rattle.lists.specs.Chain.{chain, pass}
+use Rattle.lists.proofs.Chain.{scan-none}
 use Rattle.lists.proofs.Tab.{length-tab}
 use Rattle.whole.specs.Bounds.{Each}
 use Rattle.whole.specs.Notation.{minus}
@@ -17,11 +18,13 @@ use Rattle.whole.proofs.Range.{within-inside, each-none}
 use Rattle.whole.proofs.Steps.{each-at}
 use Rattle.transform.proofs.Bounds.{forward-within}
 use Rattle.quantizer.specs.Range.{highest}
-use Rattle.residual.specs.Entry.{withDcTests}
+use Rattle.refusal.specs.declared.Refusal.the-variants.{Residual}
+use Rattle.residual.specs.Entry.{lentTests, withDcTests}
+use Rattle.residual.proofs.Entry.{lent-fine}
 use Rattle.residual.proofs.Own.{ac-numbers, own-ac-pass}
 use Rattle.dc.specs.Dc.{dcOf, lumaLevels, lumaValues, chromaLevels, chromaValues}
+use Rattle.dc.specs.Entry.{firstLarge}
 use Rattle.dc.specs.Path.{acOf, DcPath}
-use Rattle.dc.proofs.Entry.{lent-fine, dc-levels-fine}
 use Rattle.dc.proofs.Own.{own-dc-in-range, own-chroma-dc-in-range}
 
 module _ (n qp : ℕ) (blocks : ℕ → List ℤ) where
@@ -35,8 +38,8 @@ module _ (n qp : ℕ) (blocks : ℕ → List ℤ) where
     pub dc-path : DcPath n qp blocks
     dc-path = record {
       coded =
-          λ out room. dc-levels-fine n qp (dcOf n blocks) out (lent-fine n qp (length (dcOf n blocks)) (length out) length-dc room legal)
-          (each-none (minus 4080) (pos 4080) (dcOf n blocks) 4080 tt tt dc-small ∙ length-dc);
+          λ out room. scan-none (lentTests n qp (length (dcOf n blocks)) (length out)) (lent-fine n qp (length (dcOf n blocks)) (length out) length-dc room legal)
+          n (firstLarge (dcOf n blocks)) Residual [] (each-none (minus 4080) (pos 4080) (dcOf n blocks) 4080 tt tt dc-small ∙ length-dc);
       rebuilt = λ k h dc fits. own-ac-pass qp legal (blocks k) (small k h) dc fits;
       numbers = λ k h dc fits. ac-numbers qp legal (blocks k) (small k h) dc fits;
     }

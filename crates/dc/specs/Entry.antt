@@ -3,52 +3,26 @@
 use mathlib.Core.Path.{_≡_}
 use mathlib.Core.List.{List, [], _∷_, _++_}
 use Prim.Native.Nat.{ℕ}
-use lib.Dec.{eqb}
 use lib.IntN.{ℤ, pos}
 use lib.ListN.{length}
-use Rattle.lists.specs.Chain.{Test, test, chain, written}
+use Rattle.lists.specs.Chain.{Test, scanTest, chain, written}
 use Rattle.refusal.specs.Number.{said, Says}
 use Rattle.refusal.specs.declared.Answer.{Answer}
 use Rattle.refusal.specs.declared.Refusal.{Refusal}
 use Rattle.refusal.specs.declared.Refusal.the-variants as refusal
 use Rattle.whole.specs.Notation.{minus}
 use Rattle.whole.specs.Range.{firstOutside}
-use Rattle.quantizer.specs.Range as built
-use Rattle.quantizer.specs.declared.Built.{Built}
-use Rattle.residual.specs.Entry.{firstWide, quantizerTest, rangeTest}
+use Rattle.residual.specs.Entry.{firstWide, lentTests, rangeTest}
 use Rattle.dc.specs.Dc.{lumaLevels, lumaValues, chromaLevels, chromaValues}
-
--- LENGTH of what is lent and of what is written, then QUANTIZER: what all four test first
-abbrev pub lentTests : (n qp given room : ℕ) → List (Test Refusal)
-lentTests n qp given room =
-    test (eqb given n) refusal.Length
-    ∷ test (eqb room n) refusal.Length
-    ∷ quantizerTest qp
-    ∷ []
-
-pub record Accepts (n qp given room : ℕ) (b : Built) : Type 0 where
-  pub says : Says (built.said b) (chain (lentTests n qp given room))
-  pub value : built.qpOf b ≡ written (chain (lentTests n qp given room)) qp 0
 
 -- RESIDUAL: "DC coefficient outside -4080..4080", "first index"
 abbrev pub firstLarge : List ℤ → ℕ
 firstLarge dc = firstOutside (minus 4080) (pos 4080) dc
 
-abbrev pub residualTest : ℕ → List ℤ → Test Refusal
-residualTest n dc = test (eqb (firstLarge dc) n) (refusal.Residual (firstLarge dc))
-
--- LEVEL: "outside -32768..32767", "first index"
-abbrev pub levelTest : ℕ → List ℤ → Test Refusal
-levelTest n levels = test (eqb (firstWide levels) n) (refusal.Level (firstWide levels))
-
--- RANGE where the levels are in raster order; `rangeTest` is that of the zigzag
-abbrev pub rasterRangeTest : ℕ → List ℤ → Test Refusal
-rasterRangeTest n values = test (eqb (firstWide values) n) (refusal.Range (firstWide values))
-
 -- ---- to levels, of n values: LENGTH, QUANTIZER, RESIDUAL
 
 abbrev pub dcLevelsTests : ℕ → ℕ → List ℤ → List ℤ → List (Test Refusal)
-dcLevelsTests n qp dc out = lentTests n qp (length dc) (length out) ++ (residualTest n dc ∷ [])
+dcLevelsTests n qp dc out = lentTests n qp (length dc) (length out) ++ (scanTest n (firstLarge dc) refusal.Residual ∷ [])
 
 -- ---- luma_dc_levels: these of sixteen
 
@@ -64,7 +38,7 @@ pub record LumaLevels (qp : ℕ) (dc out : List ℤ) (r : Answer) (after : List 
 abbrev pub lumaValuesTests : ℕ → List ℤ → List ℤ → List (Test Refusal)
 lumaValuesTests qp levels out =
     lentTests 16 qp (length levels) (length out)
-    ++ (levelTest 16 levels
+    ++ (scanTest 16 (firstWide levels) refusal.Level
     ∷ rangeTest (lumaValues qp levels)
     ∷ [])
 
@@ -81,13 +55,13 @@ pub record ChromaLevels (qp : ℕ) (dc out : List ℤ) (r : Answer) (after : Lis
   pub says : Says (said r) (chain (chromaLevelsTests qp dc out))
   pub wrote : after ≡ written (chain (chromaLevelsTests qp dc out)) (chromaLevels qp dc) out
 
--- ---- chroma_dc_values: LENGTH, QUANTIZER, LEVEL, RANGE; the levels are in raster order
+-- ---- chroma_dc_values: LENGTH, QUANTIZER, LEVEL, RANGE; the order of the levels is that of the raster
 
 abbrev pub chromaValuesTests : ℕ → List ℤ → List ℤ → List (Test Refusal)
 chromaValuesTests qp levels out =
     lentTests 4 qp (length levels) (length out)
-    ++ (levelTest 4 levels
-    ∷ rasterRangeTest 4 (chromaValues qp levels)
+    ++ (scanTest 4 (firstWide levels) refusal.Level
+    ∷ scanTest 4 (firstWide (chromaValues qp levels)) refusal.Range
     ∷ [])
 
 pub record ChromaValues (qp : ℕ) (levels out : List ℤ) (r : Answer) (after : List ℤ) : Type 0 where

@@ -7,7 +7,6 @@ ghost use lib.Signed.{shrZ};
 ghost use Rattle.lists.specs.Tab.{tab};
 ghost use Rattle.whole.specs.Bounds.{Within, Each};
 ghost use Rattle.quantizer.specs.Range.{highest};
-ghost use Rattle.residual.specs.Quantize.{levelBy};
 ghost use Rattle.dc.specs.Dc.{lumaLevels, lumaScaled, lumaValues, chromaLevels, chromaValues};
 use quantizer::Class;
 use quantizer::Quantizer;
@@ -17,24 +16,14 @@ pub(crate) fn luma_levels(quantizer: Quantizer, dc: [i32; 16]) -> [i32; 16]
     requires { ⌜ (quantizer .qp ≤ highest) × (Each 4080 dc) ⌝ }
     ensures { λ r. ⌜ r ≡ lumaLevels (quantizer .qp) dc ⌝ }
 {
-    let t = transform::inner::hadamard4(dc);
+    let mut t = transform::inner::hadamard4(dc);
     let period = quantizer.period();
     let mf = quantizer.mf(Class::A) as u32;
     let f = residual::inner::third(period);
     let q = 15 + (period as u32);
-    residual::inner::in_zigzag(residual::inner::levels_of(t, [mf; 16], 4 * f, q + 2))
-}
-
-// Four levels, all by one multiplier.
-fn levels_of_four(t: [i32; 4], mf: u32, f: u32, q: u32) -> [i32; 4]
-    requires { ⌜ (Each 65280 t) × (mf ≤ 13107) × (f ≤ 11184810) × (q ≤ 25) ⌝ }
-    ensures { λ r. ⌜ r ≡ tab 4 (λ k. levelBy mf f q (getD t k (pos 0))) ⌝ }
-{
-    let mut levels = [0i32; 4];
-    for k in 0usize..4 {
-        levels[k] = residual::inner::level(t[k], mf, f, q);
-    }
-    levels
+    let same = [mf; 16];
+    residual::inner::level_all(&mut t, &same, 4 * f, q + 2);
+    residual::inner::in_zigzag(t)
 }
 
 // The levels of four chroma DC values, in raster order.
@@ -42,12 +31,14 @@ pub(crate) fn chroma_levels(quantizer: Quantizer, dc: [i32; 4]) -> [i32; 4]
     requires { ⌜ (quantizer .qp ≤ highest) × (Each 4080 dc) ⌝ }
     ensures { λ r. ⌜ r ≡ chromaLevels (quantizer .qp) dc ⌝ }
 {
-    let t = transform::inner::hadamard2(dc);
+    let mut t = transform::inner::hadamard2(dc);
     let period = quantizer.period();
     let mf = quantizer.mf(Class::A) as u32;
     let f = residual::inner::third(period);
     let q = 15 + (period as u32);
-    levels_of_four(t, mf, 2 * f, q + 1)
+    let same = [mf; 4];
+    residual::inner::level_all(&mut t, &same, 2 * f, q + 1);
+    t
 }
 
 // One rescaled number: a product, rounded and shifted down.

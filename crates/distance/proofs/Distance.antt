@@ -24,9 +24,9 @@ use Rattle.refusal.specs.declared.Refusal.{Refusal}
 use Rattle.quantizer.specs.Range.{periodOf, remainderOf}
 use Rattle.quantizer.specs.Tables.{vOf, classAtPlace}
 use Rattle.quantizer.specs.declared.Class.the-variants.{A, B, C}
-use Rattle.predict.specs.Samples.{mask}
-use Rattle.predict.specs.Choice.{chosen}
-use Rattle.predict.proofs.Bytes.{best-bytes}
+use Rattle.intra4.specs.Samples.{mask}
+use Rattle.intra4.specs.Choice.{chosen}
+use Rattle.intra4.proofs.Bytes.{best-bytes}
 use Rattle.transform.specs.Forward.{forward}
 use Rattle.transform.specs.Inverse.{inverse}
 use Rattle.transform.specs.Matrix.{Matrix, raster}

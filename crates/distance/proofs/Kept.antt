@@ -21,29 +21,29 @@ use Rattle.lists.specs.Bytes.{Bytes}
 use Rattle.lists.proofs.Chain.{holds-new}
 use Rattle.refusal.specs.Number as answer
 use Rattle.refusal.proofs.Same.{says-same}
-use Rattle.quantizer.specs.Range.{tests}
+use Rattle.quantizer.specs.Range.{numberTests}
+use Rattle.intra4.specs.Entry.{saidChosen}
 use Rattle.residual.specs.Entry.{rebuildTests}
 use Rattle.residual.specs.Levels.{levelsOf}
 use Rattle.residual.specs.Rebuild.{rescaledOf, rebuiltSamples}
 use Rattle.residual.proofs.rebuild.Kinds as rebuild
 use Rattle.residual.proofs.rebuild.Reads as rebuild-reads
 use Rattle.block.specs.Block.{residualOf}
-use Rattle.block.specs.Entry.{saidCoded}
 use Rattle.block.proofs.code_block.Kinds as code-block
 use Rattle.block.proofs.code_block.Reads as code-block-reads
 use Rattle.distance.specs.Distance.{promiseOf, numbersSent, distanceAt, Kept}
-use Rattle.distance.specs.Entry.{samplesOff, said, valueOf}
+use Rattle.distance.specs.Entry.{samplesOff, saidPromised, valueOf}
 use Rattle.distance.proofs.Distance.{distance, coded-left-near}
 use Rattle.distance.proofs.promised_distance.Kinds as promised-distance
 use Rattle.distance.proofs.promised_distance.Reads as promised-distance-reads
 
 pub promise-kept : (κs : Lfts 0) (a : Dens κs promised-distance.ps) (r : resT promised-distance.r κs .Denot) (e : AtExit (endedOf 0 promised-distance.ps promised-distance.r) κs)
     → promised-distance-reads.Learnt κs a r e
-    → said r ≡ pass
+    → saidPromised r ≡ pass
     → (original prediction : List ℕ) → Bytes original → Bytes prediction → (place : ℕ) → place < 16 → Kept (valueOf r) (a .0) original prediction place
 promise-kept κs a r e p done original prediction own near place l =
     let n = distance (a .0) original prediction own near place l in
-    let passed : chain (tests (a .0)) ≡ pass = sym (says-same (p .says)) ∙ done in
+    let passed : chain (numberTests (a .0)) ≡ pass = sym (says-same (p .says)) ∙ done in
     let is : valueOf r ≡ samplesOff (a .0) = holds-new 0 passed (p .value) in
     record { before = omega (arith, is, n .before); after = omega (arith, is, n .after) }
 
@@ -63,7 +63,7 @@ rebuild-near κs a r e p done original own near sent place l =
 
 pub code-block-near : (κs : Lfts 4) (a : Dens κs code-block.ps) (r : resT code-block.r κs .Denot) (e : AtExit (endedOf 4 code-block.ps code-block.r) κs)
     → code-block-reads.Learnt κs a r e
-    → saidCoded r ≡ pass
+    → saidChosen r ≡ pass
     → Bytes (now (a .1 .1 .0)) → Bytes (now (a .1 .1 .1 .0))
     → (place : ℕ) → place < 16 → 384 * distanceAt (now (a .1 .1 .1 .0)) place (pos (getD (now (e .1 .1 .1 .1 .1 .0)) place 0)) ≤ promiseOf (a .0)
 code-block-near κs a r e p done near own place l =

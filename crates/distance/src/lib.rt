@@ -38,8 +38,11 @@ fn whole_samples(spread: u32, period: u8) -> u16
 pub fn promised_distance(qp: u8) -> Promised
     ensures { λ r. ⌜ Promises qp r ⌝ }
 {
-    let Built::Legal(quantizer) = Quantizer::new(qp) else {
-        return Promised::Refused(Refusal::Quantizer(0));
-    };
-    Promised::Most(whole_samples(spread(quantizer), quantizer.period()))
+    match Quantizer::new(qp) {
+        Built::Refused(refusal) => Promised::Refused(refusal),
+        Built::Legal(quantizer) => Promised::Most(whole_samples(
+            spread(quantizer),
+            quantizer.period(),
+        )),
+    }
 }

@@ -10,7 +10,6 @@ use mathlib.Core.List.{List}
 use Prim.Native.Nat.{ℕ, _*_, _/_, _%_, _<_, _≤_}
 use native.Mathlib.Omega.{arith}
 use contract.Lifetimes.{Lfts}
-use borrow.Author.Tests.{leb-true}
 use denote.Ref.{now}
 use denote.Triple.Clauses.{AtExit}
 use borrow.Fn.Kinds.{Dens, resT, endedOf}
@@ -20,10 +19,10 @@ use Rattle.lists.specs.Chain.{Test, Verdict, pass, chain}
 use Rattle.lists.specs.Bytes.{Bytes}
 use Rattle.lists.proofs.Chain.{chain-exactly-if}
 use Rattle.refusal.specs.declared.Refusal.{Refusal}
-use Rattle.quantizer.specs.Range.{highest, tests}
-use Rattle.quantizer.proofs.Range.{legal}
-use Rattle.predict.specs.Choice.{chosen}
-use Rattle.predict.specs.Samples.{mask}
+use Rattle.quantizer.specs.Range.{numberTests}
+use Rattle.quantizer.proofs.Range.{legal, number-legal}
+use Rattle.intra4.specs.Choice.{chosen}
+use Rattle.intra4.specs.Samples.{mask}
 use Rattle.block.specs.Entry.{codeTests}
 use Rattle.distance.specs.Distance.{promiseOf, distanceAt}
 use Rattle.distance.specs.Entry.{samplesOff}
@@ -52,7 +51,7 @@ module _ (κs : Lfts 4) (a : Dens κs code-block.ps) (w : resT code-block.r κs 
         → promised-distance-reads.Learnt κs′ a′ w′ e′
         → (w′ % 256 ≡ 0) × (distanceAt (now (a .1 .1 .1 .0)) place (pos (getD (now (e .1 .1 .1 .1 .1 .0)) place 0)) ≤ w′ / 256)
     fb-promise-kept κs′ a′ w′ e′ same q =
-        let legal-qp = leb-true (a .0) highest (chain-exactly-if tested .passes .0 passed .1 .1 .1 .1 .1 .0) in
+        let legal-qp = number-legal 0 (a .0) (chain-exactly-if tested .passes .0 passed .1 .1 .1 .1 .1 .0) in
         let is : w′ ≡ 256 * samplesOff (a .0) =
-        q ∙ ap (λ (qp : ℕ). wordOf (chain (tests qp)) (samplesOff qp)) same ∙ ap (λ (v : Verdict Refusal). wordOf v (samplesOff (a .0))) (legal (a .0) legal-qp) in
+        q ∙ ap (λ (qp : ℕ). wordOf (chain (numberTests qp)) (samplesOff qp)) same ∙ ap (λ (v : Verdict Refusal). wordOf v (samplesOff (a .0))) (legal (a .0) legal-qp) in
         (omega (arith, is), omega (arith, is, fb-code-block-near))

@@ -10,7 +10,7 @@ use Rattle.lists.specs.Chain.{Test, Verdict, pass, stop, chain, written}
 use Rattle.refusal.specs.Number.{Says}
 use Rattle.refusal.specs.declared.Refusal.{Refusal}
 use Rattle.refusal.proofs.Same.{says-same}
-use Rattle.predict.specs.Choice.{Best, nothing}
+use Rattle.intra4.specs.Choice.{Best, nothing}
 use Rattle.fleecebutton.specs.Word.{wordOf, choiceValue, sizeValue, Sends}
 
 -- the word is of what the tests come to

@@ -8,11 +8,11 @@ use lib.IntN.{ℤ}
 use lib.ListN.{length}
 use Rattle.lists.specs.Parts.{over}
 use Rattle.lists.specs.Chain.{chain, written}
-use Rattle.predict.specs.Choice.{chosen}
-use Rattle.predict.specs.Entry.{predictTests, chooseTests, bestSamples}
-use Rattle.predict.specs.Rules as rules
-use Rattle.predict.specs.Samples.{mask}
-use Rattle.transform.specs.Entry as transform
+use Rattle.intra4.specs.Choice.{chosen}
+use Rattle.intra4.specs.Entry.{predictTests, chooseTests, bestSamples}
+use Rattle.intra4.specs.Rules as rules
+use Rattle.intra4.specs.Samples.{mask}
+use Rattle.transform.specs.Entry.{forwardTests}
 use Rattle.transform.specs.Forward.{forward}
 use Rattle.residual.specs.Entry.{levelsTests, rebuildTests, withDcTests}
 use Rattle.residual.specs.Levels.{levelsOf}
@@ -20,7 +20,7 @@ use Rattle.residual.specs.Rebuild.{rebuiltSamples, rescaledOf, rescaledWithDc}
 use Rattle.dc.specs.Dc.{lumaLevels, lumaValues, chromaLevels, chromaValues}
 use Rattle.dc.specs.Entry.{lumaLevelsTests, lumaValuesTests, chromaLevelsTests, chromaValuesTests}
 use Rattle.quantizer.specs.Chroma.{chromaTests, chromaOf}
-use Rattle.quantizer.specs.Range as quantizer
+use Rattle.quantizer.specs.Range.{numberTests}
 use Rattle.block.specs.Block.{codedLevels, codedSamples}
 use Rattle.block.specs.Entry.{codeTests}
 use Rattle.distance.specs.Entry.{samplesOff}
@@ -42,7 +42,7 @@ ChooseSends neighbours flags samples before w after =
     Sends (chooseTests neighbours flags samples before) (choiceValue best) (bestSamples (mask neighbours flags) best) before w after
 
 abbrev pub ForwardSends : (residual before : List ℤ) (w : ℕ) (after : List ℤ) → Type 0
-ForwardSends residual before w after = Sends (transform.tests residual before) 0 (forward residual) before w after
+ForwardSends residual before w after = Sends (forwardTests residual before) 0 (forward residual) before w after
 
 abbrev pub LevelsSends : (qp : ℕ) (residual before : List ℤ) (w : ℕ) (after : List ℤ) → Type 0
 LevelsSends qp residual before w after = Sends (levelsTests qp residual before) 0 (levelsOf qp residual) before w after
@@ -77,7 +77,7 @@ pub record CodeBlockSends (qp flags : ℕ) (neighbours samples : List ℕ) (l : 
   pub rebuilt : o′ ≡ written (chain (codeTests qp flags neighbours samples l o)) (codedSamples qp (mask neighbours flags) samples) o
 
 abbrev pub PromisedDistanceSends : (qp w : ℕ) → Type 0
-PromisedDistanceSends qp w = w ≡ wordOf (chain (quantizer.tests qp)) (samplesOff qp)
+PromisedDistanceSends qp w = w ≡ wordOf (chain (numberTests qp)) (samplesOff qp)
 
 -- two outputs: the file area and the rebuilt plane, file and rebuilt at entry, file′ and rebuilt′ at exit; the value is the bytes used
 pub record CodePlaneSends (width height qp : ℕ) (plane file rebuilt : List ℕ) (w : ℕ) (file′ rebuilt′ : List ℕ) : Type 0 where

@@ -26,7 +26,7 @@ mod word;
 pub extern "C" fn fb_predict(neighbours: &[u8], flags: u8, mode: u8, out: &mut [u8]) -> u64
     ensures { λ r. ⌜ PredictSends (now (neighbours .entry)) flags mode (now (out .entry)) r (now (out .exit)) ⌝ }
 {
-    word::of_answer(predict::predict(neighbours, flags, mode, out))
+    word::of_answer(intra4::predict(neighbours, flags, mode, out))
 }
 
 // The best mode's prediction; its mode + 16 * SAD is the word's value.
@@ -39,7 +39,7 @@ pub extern "C" fn fb_choose(
 ) -> u64
     ensures { λ r. ⌜ ChooseSends (now (neighbours .entry)) flags (now (samples .entry)) (now (prediction .entry)) r (now (prediction .exit)) ⌝ }
 {
-    word::of_chosen(predict::choose(neighbours, flags, samples, prediction))
+    word::of_chosen(intra4::choose(neighbours, flags, samples, prediction))
 }
 
 // The coefficients of sixteen residuals.
@@ -132,7 +132,7 @@ pub extern "C" fn fb_code_block(
 ) -> u64
     ensures { λ r. ⌜ CodeBlockSends qp flags (now (neighbours .entry)) (now (samples .entry)) (now (levels .entry)) (now (rebuilt .entry)) r (now (levels .exit)) (now (rebuilt .exit)) ⌝ }
 {
-    word::of_coded(block::code_block(qp, flags, neighbours, samples, levels, rebuilt))
+    word::of_chosen(block::code_block(qp, flags, neighbours, samples, levels, rebuilt))
 }
 
 // No rebuilt sample of `fb_code_block` is farther off its original than the word's value.

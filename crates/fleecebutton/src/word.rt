@@ -3,18 +3,16 @@ ghost use mathlib.Core.Path.{_≡_};
 ghost use Prim.Native.Nat.{_+_, _*_, _<_, _≤_};
 ghost use Rattle.lists.specs.Chain.{pass, stop};
 ghost use Rattle.refusal.specs.Number.{said};
-ghost use Rattle.predict.specs.Entry.{saidChosen, bestIn};
-ghost use Rattle.block.specs.Entry.{saidCoded, bestCoded};
-ghost use Rattle.quantizer.specs.Range.{said as saidBuilt, qpOf};
-ghost use Rattle.distance.specs.Entry.{said as saidPromised, valueOf};
+ghost use Rattle.intra4.specs.Entry.{saidChosen, bestIn};
+ghost use Rattle.quantizer.specs.Range.{saidBuilt, qpOf};
+ghost use Rattle.distance.specs.Entry.{saidPromised, valueOf};
 ghost use Rattle.record.specs.Entry.{said as saidHead, widthOf, heightOf};
 ghost use Rattle.plane.specs.Code.{saidPlane, bytesUsed};
-ghost use Rattle.sheet.specs.Entry.{said as saidSheeted, givenIn};
+ghost use Rattle.sheet.specs.Entry.{saidSheeted, givenIn};
 ghost use Rattle.fleecebutton.specs.Word.{places, wordOf, choiceValue, sizeValue, sheetValue};
-use block::Coded;
 use distance::Promised;
+use intra4::Chosen;
 use plane::CodedPlane;
-use predict::Chosen;
 use quantizer::Built;
 use record::Head;
 use refusal::Answer;
@@ -60,15 +58,6 @@ pub(crate) fn of_chosen(chosen: Chosen) -> u64
     match chosen {
         Chosen::Mode(mode, sad) => of_choice(mode, sad),
         Chosen::Refused(refusal) => of_refusal(refusal),
-    }
-}
-
-pub(crate) fn of_coded(coded: Coded) -> u64
-    ensures { λ r. ⌜ r ≡ wordOf (saidCoded coded) (choiceValue (bestCoded coded)) ⌝ }
-{
-    match coded {
-        Coded::Mode(mode, sad) => of_choice(mode, sad),
-        Coded::Refused(refusal) => of_refusal(refusal),
     }
 }
 

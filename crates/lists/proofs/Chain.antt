@@ -1,15 +1,17 @@
 -- The law of a chain of tests: refused exactly if a test fails and all before it pass, passed exactly if all pass.
 --     chain-exactly-if
 --     chain-passed, chain-refused     a chain behind a chain
+--     scan-none, scan-found           what the test of a scan comes to, behind a chain that passes
 --     written-passed, written-refused, holds-new     what an output holds at exit, by the verdict
 -- Assumes nothing.
 use mathlib.Core.Path.{_≡_, refl, sym, ap, _∙_}
 use mathlib.Core.Bool.{Bool, true, false, cond}
 use mathlib.Core.Logic.{inl, inr}
 use mathlib.Core.List.{List, [], _∷_, _++_}
-use Prim.Native.Nat.{ℕ}
+use Prim.Native.Nat.{ℕ, _<_}
 use native.Mathlib.Omega.{arith}
-use Rattle.lists.specs.Chain.{Test, Verdict, pass, stop, chain, written, AllPass, RefusedWith, ExactlyIf}
+use borrow.Author.Tests.{eq-eqb, ne-eqb}
+use Rattle.lists.specs.Chain.{Test, scanTest, Verdict, pass, stop, chain, written, AllPass, RefusedWith, ExactlyIf}
 
 module _ {R : Type 0} where
   pub pass-not-stop : {r : R} → pass ≡ stop r → ⊥
@@ -62,6 +64,16 @@ module _ {R : Type 0} where
     passes = (passed-only ts, passed-if ts);
     refuses = λ r. (refused-only ts r, refused-if ts r);
   }
+
+  -- a scan behind a chain that passes: none found before the end, or this one
+  module _ (ts : List (Test R)) (passed : chain ts ≡ pass) (n found : ℕ) (refusalAt : ℕ → R) (rest : List (Test R)) where
+    pub scan-none : found ≡ n → chain (ts ++ (scanTest n found refusalAt ∷ rest)) ≡ chain rest
+    scan-none e = chain-passed ts (scanTest n found refusalAt ∷ rest) passed ∙ rw (eq-eqb found n e)
+
+    pub scan-found : found < n → chain (ts ++ (scanTest n found refusalAt ∷ rest)) ≡ stop (refusalAt found)
+    scan-found l =
+        let z : (found ≡ n → ⊥) = λ e. omega arith in
+        chain-passed ts (scanTest n found refusalAt ∷ rest) passed ∙ rw (ne-eqb found n z)
 
   -- what an output holds at exit
   module _ {A : Type 0} {v : Verdict R} where

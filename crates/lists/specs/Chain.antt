@@ -3,6 +3,8 @@ use mathlib.Core.Path.{_≡_}
 use mathlib.Core.Bool.{Bool, true, false, cond}
 use mathlib.Core.List.{List, [], _∷_}
 use mathlib.Core.Logic.{_⊎_, _↔_}
+use Prim.Native.Nat.{ℕ}
+use lib.Dec.{eqb}
 
 -- a test, and what is sent back where it fails
 pub record Test (R : Type 0) : Type 0 where
@@ -11,6 +13,10 @@ pub record Test (R : Type 0) : Type 0 where
 
 abbrev pub test : {R : Type 0} → Bool → R → Test R
 test passes refusal = record { passes = passes; refusal = refusal }
+
+-- "first index": the test of a scan over n passes if the first offence found is the end; else what is sent back names its place
+abbrev pub scanTest : {R : Type 0} → (n found : ℕ) → (ℕ → R) → Test R
+scanTest n found refusalAt = test (eqb found n) (refusalAt found)
 
 -- what a chain of tests comes to
 pub data Verdict (R : Type 0) : Type 0 where

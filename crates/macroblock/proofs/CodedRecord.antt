@@ -23,7 +23,7 @@ use Rattle.lists.proofs.Parts.{parts-at}
 use Rattle.lists.proofs.Places.{parts-places}
 use Rattle.lists.proofs.Tab.{getD-tab}
 use Rattle.quantizer.specs.Range.{highest}
-use Rattle.predict.specs.Rules as rules
+use Rattle.intra4.specs.Rules as rules
 use Rattle.residual.specs.Entry.{firstWide}
 use Rattle.residual.specs.Order.{inZigzag}
 use Rattle.residual.specs.Rebuild as residual

@@ -20,8 +20,8 @@ use Rattle.lists.proofs.Places.{tab-places}
 use Rattle.lists.proofs.Tab.{Filling, filling-none, filling-more, filling-done}
 use Rattle.whole.proofs.Bound.{here, fits}
 use Rattle.whole.proofs.Steps.{each-at}
-use Rattle.predict.specs.Samples.{mask}
-use Rattle.predict.proofs.Least.{some-mode}
+use Rattle.intra4.specs.Samples.{mask}
+use Rattle.intra4.proofs.Least.{some-mode}
 use Rattle.block.specs.Block.{modeOf}
 use Rattle.block.specs.Entry.{Carries}
 use Rattle.block.specs.declared.inner.Block.{Block}

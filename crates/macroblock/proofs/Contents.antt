@@ -31,7 +31,7 @@ use Rattle.residual.specs.Rescale.{scaledBy, vAt, rescaled}
 use Rattle.residual.proofs.Entry.{range-each}
 use Rattle.residual.proofs.Order.{length-zigzag}
 use Rattle.quantizer.specs.Range.{highest, periodOf}
-use Rattle.predict.specs.Rules.{permitted}
+use Rattle.intra4.specs.Rules.{permitted}
 use Rattle.record.specs.Kinds.{inFours}
 use Rattle.record.specs.Numbers.{numberAt}
 use Rattle.record.specs.Records.{qpIn, modeIn, levelIn, levelsIn}

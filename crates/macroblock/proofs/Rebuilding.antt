@@ -7,8 +7,8 @@ use mathlib.Core.List.{List}
 use Prim.Native.Nat.{ℕ}
 use lib.IntN.{ℤ}
 use Rattle.lists.specs.Fold.{fold}
-use Rattle.predict.specs.Samples.{mask}
-use Rattle.predict.specs.Rules as rules
+use Rattle.intra4.specs.Samples.{mask}
+use Rattle.intra4.specs.Rules as rules
 use Rattle.residual.specs.Rebuild.{rebuiltSamples}
 use Rattle.record.specs.Records.{modeIn}
 use Rattle.picture.specs.declared.Layout.{Layout}

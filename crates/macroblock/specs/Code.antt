@@ -4,7 +4,7 @@ use Prim.Native.Nat.{ℕ}
 use lib.IntN.{ℤ}
 use Rattle.lists.specs.Parts.{parts}
 use Rattle.lists.specs.Tab.{tab}
-use Rattle.predict.specs.Samples.{Round, mask}
+use Rattle.intra4.specs.Samples.{Round, mask}
 use Rattle.block.specs.Block.{codedMode, codedLevels, codedSamples}
 use Rattle.record.specs.Records.{recordOf}
 use Rattle.picture.specs.declared.Layout.{Layout}

@@ -10,7 +10,7 @@ use Rattle.lists.specs.First.{first}
 use Rattle.refusal.specs.declared.Refusal.{Refusal}
 use Rattle.refusal.specs.declared.Refusal.the-variants as refusal
 use Rattle.quantizer.specs.Range.{highest}
-use Rattle.predict.specs.Rules.{permitted}
+use Rattle.intra4.specs.Rules.{permitted}
 use Rattle.residual.specs.Entry.{firstWide}
 use Rattle.residual.specs.Order.{inZigzag}
 use Rattle.residual.specs.Rebuild.{rescaledOf}

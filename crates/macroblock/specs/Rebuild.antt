@@ -2,8 +2,8 @@
 -- the order of "blocks 0-15" (01, "Plane and record file"). Assumes nothing.
 use mathlib.Core.List.{List}
 use Prim.Native.Nat.{ℕ}
-use Rattle.predict.specs.Samples.{mask}
-use Rattle.predict.specs.Rules as rules
+use Rattle.intra4.specs.Samples.{mask}
+use Rattle.intra4.specs.Rules as rules
 use Rattle.residual.specs.Rebuild.{rebuiltSamples}
 use Rattle.record.specs.Records.{modeIn}
 use Rattle.picture.specs.declared.Layout.{Layout}

@@ -17,7 +17,7 @@ fn mode_holds(layout: Layout, m: usize, part: &[u8], b: usize) -> bool
     ensures { λ r. ⌜ r ≡ modeHolds layout m (now (part .entry)) b ⌝ }
 {
     let flags = picture::inner::flags(layout, m, b);
-    predict::inner::permitted(flags, record::inner::mode(part, b))
+    intra4::inner::permitted(flags, record::inner::mode(part, b))
 }
 
 // The first block whose mode does not hold, and 16 where there is none.

@@ -32,7 +32,7 @@ pub(crate) fn rebuild_turn(
     let neighbours = picture::inner::gather(plane, layout, m, b);
     let mode = record::inner::mode(part, b);
     let mut prediction = [0u8; 16];
-    predict::inner::fill(&neighbours, flags, mode, &mut prediction);
+    intra4::inner::fill(&neighbours, flags, mode, &mut prediction);
     let numbers = content::rescaled(quantizer, part, b);
     let samples = residual::inner::samples(prediction, numbers);
     picture::inner::store_block(plane, layout, m, b, samples);

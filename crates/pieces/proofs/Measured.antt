@@ -7,8 +7,8 @@ use Rattle.whole.specs.Range.{inside, firstOutside}
 use Rattle.transform.specs.Forward.{forward}
 use Rattle.transform.specs.Inverse.{inverse}
 use Rattle.transform.specs.Hadamard.{hadamard}
-use Rattle.predict.specs.Samples.{bitOf}
-use Rattle.predict.specs.Rules.{predicted, downLeft, horizontalUp}
+use Rattle.intra4.specs.Samples.{bitOf}
+use Rattle.intra4.specs.Rules.{predicted, downLeft, horizontalUp}
 use Rattle.residual.specs.Order.{inZigzag, inPlaces}
 use Rattle.residual.specs.Quantize.{levelBy}
 use Rattle.residual.specs.Rescale.{scaledBy, rescaled}

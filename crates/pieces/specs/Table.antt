@@ -8,12 +8,12 @@ use lib.ListN.{getD, replicate}
 use Rattle.lists.specs.Chain.{Verdict, chain}
 use Rattle.refusal.specs.Number.{number, place}
 use Rattle.refusal.specs.declared.Refusal.{Refusal}
-use Rattle.quantizer.specs.Range.{tests, periodOf}
+use Rattle.quantizer.specs.Range.{numberTests, periodOf}
 use Rattle.quantizer.specs.Chroma.{chromaOf}
 use Rattle.transform.specs.Forward.{forward}
 use Rattle.transform.specs.Inverse.{inverse}
-use Rattle.predict.specs.Samples.{mask}
-use Rattle.predict.specs.Rules.{Predicted, samples, none, predicted}
+use Rattle.intra4.specs.Samples.{mask}
+use Rattle.intra4.specs.Rules.{Predicted, samples, none, predicted}
 use Rattle.residual.specs.Entry.{rebuildTests}
 use Rattle.residual.specs.Quantize.{levelOf}
 use Rattle.residual.specs.Rebuild.{rescaledOf}
@@ -78,8 +78,8 @@ chromaAt qp offset = pos (chromaOf qp offset) ∷ []
 unfoldable pub table : List Piece
 table =
     -- "QP 51 accepted, 52 refused (2)."
-    piece (sent (chain (tests 51))) accepted
-    ∷ piece (sent (chain (tests 52))) (refused 2)
+    piece (sent (chain (numberTests 51))) accepted
+    ∷ piece (sent (chain (numberTests 52))) (refused 2)
     -- "Level 3276 at QP 0, class a: 32760, accepted; 3277: refused (6)."
     ∷ piece (rescaledAlone (pos 3276)) (pos 32760 ∷ [])
     ∷ piece (rebuildAlone (pos 3276)) accepted

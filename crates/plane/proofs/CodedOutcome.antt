@@ -8,7 +8,7 @@ use mathlib.Core.Path.{_≡_, sym, ap, _∙_}
 use mathlib.Core.Bool.{true, false}
 use mathlib.Core.List.{List}
 use Prim.Native.Nat.{ℕ, _<_, _≤_}
-use borrow.Author.Tests.{eqb-true, leb-true, eq-eqb, ne-eqb, le-leb, lt-leb}
+use borrow.Author.Tests.{eqb-true, eq-eqb, ne-eqb}
 use lib.ListN.{length}
 use Rattle.lists.specs.Chain.{pass, stop, chain, ExactlyIf}
 use Rattle.lists.specs.Parts.{over}
@@ -18,6 +18,7 @@ use Rattle.refusal.specs.declared.Refusal.{Refusal}
 use Rattle.refusal.specs.declared.Refusal.the-variants as refusal
 use Rattle.refusal.proofs.Same.{says, says-same, says-exactly-if}
 use Rattle.quantizer.specs.Range.{highest}
+use Rattle.quantizer.proofs.Range.{number-passes, number-fails, number-legal}
 use Rattle.record.specs.Entry.{sizeHolds}
 use Rattle.record.specs.Records.{fileLength}
 use Rattle.picture.specs.Order.{countOf}
@@ -68,7 +69,7 @@ module _ (width height qp : ℕ) (plane file rebuilt : List ℕ) where
           pub high-quantizer : highest < qp → CodesPlane width height qp plane file rebuilt (Refused (refusal.Quantizer 0)) file rebuilt
           high-quantizer h =
               refused (refusal.Quantizer 0)
-              (simp (s, eq-eqb (length plane) samples p, eq-eqb (length file) room f, eq-eqb (length rebuilt) samples r, lt-leb qp highest h))
+              (simp (s, eq-eqb (length plane) samples p, eq-eqb (length file) room f, eq-eqb (length rebuilt) samples r, number-fails 0 qp h))
 
           -- k is the number that the quantizer in hand has
           pub plane-coded : {k : ℕ} → k ≡ qp → qp ≤ highest → {used : ℕ} {file′ rebuilt′ : List ℕ} → used ≡ length (codedFile (layoutOf width height) k plane)
@@ -77,7 +78,7 @@ module _ (width height qp : ℕ) (plane file rebuilt : List ℕ) where
           plane-coded is q {used} {file′} {rebuilt′} n u v =
               let l = layoutOf width height in
               let e : chain (codePlaneTests width height qp plane file rebuilt) ≡ pass =
-              simp (s, eq-eqb (length plane) samples p, eq-eqb (length file) room f, eq-eqb (length rebuilt) samples r, le-leb qp highest q) in
+              simp (s, eq-eqb (length plane) samples p, eq-eqb (length file) room f, eq-eqb (length rebuilt) samples r, number-passes 0 qp q) in
               record {
                 says = says (sym e);
                 used = simp e (n ∙ ap (λ (i : ℕ). length (codedFile l i plane)) is);
@@ -109,7 +110,7 @@ module _ (width height qp : ℕ) (plane : List ℕ) where
         size = all .0;
         long = eqb-true (length plane) (planeLength 16 (layoutOf width height)) (all .1 .0);
         room = eqb-true (length rebuilt) (planeLength 16 (layoutOf width height)) (all .1 .1 .1 .0);
-        legal = leb-true qp highest (all .1 .1 .1 .1 .0);
+        legal = number-legal 0 qp (all .1 .1 .1 .1 .0);
         bytes = holds-new 0 v (c .used) ∙ n;
         filed = holds-new file v (c .filed) ∙ over-all (codedFile (layoutOf width height) qp plane) file (area ∙ sym n);
         stored = holds-new rebuilt v (c .stored);

@@ -11,7 +11,7 @@ use Rattle.lists.specs.Parts.{parts, over}
 use Rattle.refusal.specs.Number.{Says}
 use Rattle.refusal.specs.declared.Refusal.{Refusal}
 use Rattle.refusal.specs.declared.Refusal.the-variants as refusal
-use Rattle.residual.specs.Entry.{quantizerTest}
+use Rattle.quantizer.specs.Range.{quantizerTest}
 use Rattle.record.specs.Entry.{sizeHolds}
 use Rattle.record.specs.Records.{headOf, fileLength}
 use Rattle.picture.specs.declared.Layout.{Layout}
@@ -53,7 +53,7 @@ codePlaneTests width height qp plane file rebuilt =
     ∷ test (eqb (length plane) (planeLength 16 (layoutOf width height))) refusal.Length
     ∷ test (eqb (length file) (fileLength (countOf (layoutOf width height)))) refusal.Length
     ∷ test (eqb (length rebuilt) (planeLength 16 (layoutOf width height))) refusal.Length
-    ∷ quantizerTest qp ∷ []
+    ∷ quantizerTest 0 qp ∷ []
 
 -- what an answer says, and how many bytes of the file area were used (0 where refused): "a definition gives, for each of its cases, this
 -- paper's number and values" (01, "Some places and their forms")

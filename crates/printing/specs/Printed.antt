@@ -10,8 +10,8 @@ use Rattle.lists.specs.Chain.{Verdict, pass, stop, chain}
 use Rattle.refusal.specs.Number.{number, place}
 use Rattle.refusal.specs.declared.Refusal.{Refusal}
 use Rattle.refusal.specs.declared.Refusal.the-variants as refusal
-use Rattle.predict.specs.Samples.{mask}
-use Rattle.predict.specs.Choice.{Best, nothing, at, chosen}
+use Rattle.intra4.specs.Samples.{mask}
+use Rattle.intra4.specs.Choice.{Best, nothing, at, chosen}
 use Rattle.block.specs.Block.{codedLevels, codedSamples}
 use Rattle.block.specs.Entry.{codeTests}
 use Rattle.printing.specs.Text.{decimalOf, signedOf, lineOf, Written}

@@ -5,10 +5,10 @@ ghost use mathlib.Core.List.{[], _∷_, _++_};
 ghost use lib.IntN.{pos};
 ghost use lib.ListN.{length, getD};
 ghost use Rattle.refusal.specs.Number.{numberOf, placeOf};
-ghost use Rattle.predict.specs.Choice.{at};
+ghost use Rattle.intra4.specs.Choice.{at};
 ghost use Rattle.printing.specs.Text.{digitAt, decimalOf, signedOf, behind as paperBehind, lineOf, Adds, Written};
 ghost use Rattle.printing.specs.Printed.{refusedText, okText, Prints};
-use block::Coded;
+use intra4::Chosen;
 use refusal::Refusal;
 
 // Text and its length; what stands behind it is 0.
@@ -178,7 +178,7 @@ pub fn printed(input: &[u8]) -> Text
         &mut levels,
         &mut rebuilt,
     ) {
-        Coded::Refused(refusal) => refused(refusal),
-        Coded::Mode(mode, sad) => accepted(mode, sad, levels, rebuilt),
+        Chosen::Refused(refusal) => refused(refusal),
+        Chosen::Mode(mode, sad) => accepted(mode, sad, levels, rebuilt),
     }
 }

@@ -24,14 +24,18 @@ periodOf qp = qp / 6
 abbrev pub remainderOf : ℕ → ℕ
 remainderOf qp = qp % 6
 
--- QUANTIZER, place 0, exactly if the number lies outside
-abbrev pub tests : ℕ → List (Test Refusal)
-tests qp = test (leb lowest qp && leb qp highest) (refusal.Quantizer 0) ∷ []
+-- QUANTIZER, with its place: the number lies outside
+abbrev pub quantizerTest : (place qp : ℕ) → Test Refusal
+quantizerTest place qp = test (leb lowest qp && leb qp highest) (refusal.Quantizer place)
+
+-- of a quantizer's number alone: "0 where none is named"
+abbrev pub numberTests : ℕ → List (Test Refusal)
+numberTests qp = quantizerTest 0 qp ∷ []
 
 -- what an answer says, and the number of the quantizer that comes back (0 where none does)
-abbrev pub said : Built → Verdict Refusal
-said (Legal q) = pass
-said (Refused r) = stop r
+abbrev pub saidBuilt : Built → Verdict Refusal
+saidBuilt (Legal q) = pass
+saidBuilt (Refused r) = stop r
 
 abbrev pub qpOf : Built → ℕ
 qpOf (Legal q) = q .qp
@@ -39,5 +43,5 @@ qpOf (Refused r) = 0
 
 -- the quantizer of this number, or the refusal
 pub record Builds (qp : ℕ) (b : Built) : Type 0 where
-  pub says : Says (said b) (chain (tests qp))
-  pub value : qpOf b ≡ written (chain (tests qp)) qp 0
+  pub says : Says (saidBuilt b) (chain (numberTests qp))
+  pub value : qpOf b ≡ written (chain (numberTests qp)) qp 0

@@ -133,14 +133,16 @@ const V: [u8; 18] = [
 pub fn chroma_quantizer(qp: u8, offset: i32) -> Built
     ensures { λ r. ⌜ ChromaBuilds qp offset r ⌝ }
 {
-    if Quantizer::MAX < qp {
-        return Built::Refused(Refusal::Quantizer(0));
+    match Quantizer::new(qp) {
+        Built::Refused(refusal) => Built::Refused(refusal),
+        Built::Legal(_) => {
+            if !whole::inner::inside(offset, -12, 12) {
+                return Built::Refused(Refusal::Quantizer(0));
+            }
+            let moved = whole::inner::clip(qp as i32 + offset, Quantizer::MAX);
+            Quantizer::new(folded(moved))
+        }
     }
-    if !whole::inner::inside(offset, -12, 12) {
-        return Built::Refused(Refusal::Quantizer(0));
-    }
-    let moved = whole::inner::clip(qp as i32 + offset, Quantizer::MAX);
-    Built::Legal(Quantizer { qp: folded(moved) })
 }
 
 // The standard's table, from 30 on.

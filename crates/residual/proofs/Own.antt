@@ -41,7 +41,7 @@ use Rattle.residual.proofs.Quantize.{third-small, level-within, size-si
 use Rattle.residual.specs.Entry.{rebuildTests, withDcTests, levelTests, rangeTest, firstWide}
 use Rattle.residual.specs.Order.{inZigzag, inPlaces}
 use Rattle.residual.specs.Rebuild.{rescaledOf, rescaledWithDc}
-use Rattle.residual.proofs.Entry.{wide-none, accepts-all, range-fine}
+use Rattle.residual.proofs.Entry.{wide-none, lent-fine, levels-fine, range-fine}
 use Rattle.residual.proofs.Order.{length-zigzag, places-again, in-zigzag-each}
 use Rattle.residual.proofs.Rescale.{scaled-block}
 
@@ -171,7 +171,7 @@ module _ (qp : ℕ) (legal : qp ≤ highest) (x : List ℤ) (small : Each 255 x)
   own-levels-pass p o a b =
       let l = levelsOf qp x in
       let n : length (levelsOf qp x) ≡ 16 = length-zigzag (quantized qp x) in
-      let first = accepts-all 16 0 qp (length p) l (length o) a n b legal (omega (arith, wide-none l (each-less 1632 32767 l (own-levels-in-range .levels) tt))) in
+      let first = levels-fine 16 0 qp (length p) l (length o) n (lent-fine 16 qp (length p) (length o) a b legal) (omega (arith, wide-none l (each-less 1632 32767 l (own-levels-in-range .levels) tt))) in
       chain-passed (levelTests 16 0 qp (length p) l (length o)) (rangeTest (rescaledOf qp l) ∷ []) first
       ∙ range-fine (rescaledOf qp l) (omega (arith, own-numbers-fit))
 
@@ -195,6 +195,6 @@ module _ (qp : ℕ) (legal : qp ≤ highest) (x : List ℤ) (small : Each 255 x)
         let ac = drop 1 (levelsOf qp x) in
         let n : length ac ≡ 15 = omega (arith, length-drop 1 (levelsOf qp x), length-zigzag (quantized qp x)) in
         let narrow = wide-none ac (each-less 1632 32767 ac (each-rest 1632 (levelsOf qp x) (own-levels-in-range .levels)) tt) in
-        let first = accepts-all 15 1 qp (length p) ac (length o) a n b legal (omega (arith, narrow, n)) in
+        let first = levels-fine 15 1 qp (length p) ac (length o) n (lent-fine 16 qp (length p) (length o) a b legal) (omega (arith, narrow, n)) in
         chain-passed (levelTests 15 1 qp (length p) ac (length o)) (rangeTest (rescaledWithDc qp dc ac) ∷ []) first
         ∙ range-fine (rescaledWithDc qp dc ac) (omega (arith, ac-fit))

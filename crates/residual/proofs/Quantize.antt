@@ -44,19 +44,19 @@ multipliers-small qp place h =
     subst (λ (n : ℕ). n ≤ 13107) (sym (getD-tab 16 (mfAt qp) place 0 h)) (mf-small (remainderOf qp) (omega arith) (classAtPlace place))
 
 -- the rule at s = 0
-level-block : (p mf : ℕ) (y : ℤ) → levelBy mf (fOf p) (qOf p) y ≡ levelOf 0 p mf y
+level-block : (p mf : ℕ) (y : ℤ) → levelBy mf (fOf p) (2 ^ qOf p) y ≡ levelOf 0 p mf y
 level-block p mf y =
     let f : fOf p ≡ 2 ^ 0 * fOf p = omega arith in
     let q : qOf p ≡ qOf p + 0 = omega arith in
-    λ i. levelBy mf (f i) (q i) y
+    λ i. levelBy mf (f i) (2 ^ q i) y
 
 pub quantized-by : (qp : ℕ) (residual : List ℤ)
-    → tab 16 (λ place. levelBy (getD (tab 16 (mfAt qp)) place 0) (fOf (periodOf qp)) (qOf (periodOf qp)) (getD (forward residual) place (pos 0))) ≡ quantized qp residual
+    → tab 16 (λ place. levelBy (getD (tab 16 (mfAt qp)) place 0) (fOf (periodOf qp)) (2 ^ qOf (periodOf qp)) (getD (forward residual) place (pos 0))) ≡ quantized qp residual
 unfolding quantized
 quantized-by qp residual =
     tab-same 16 _ _
     (λ place h.
-    ap (λ (mf : ℕ). levelBy mf (fOf (periodOf qp)) (qOf (periodOf qp)) (getD (forward residual) place (pos 0))) (getD-tab 16 (mfAt qp) place 0 h)
+    ap (λ (mf : ℕ). levelBy mf (fOf (periodOf qp)) (2 ^ qOf (periodOf qp)) (getD (forward residual) place (pos 0))) (getD-tab 16 (mfAt qp) place 0 h)
     ∙ level-block (periodOf qp) (mfAt qp place) (getD (forward residual) place (pos 0)))
 
 -- ---- how large a level is

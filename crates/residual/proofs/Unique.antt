@@ -6,20 +6,21 @@ use denote.Ref.{now}
 use lib.IntN.{ℤ}
 use Rattle.unique.specs.Unique.{Unique}
 use Rattle.refusal.proofs.Same.{says-same, same-answer}
+use Rattle.quantizer.proofs.Range.{same-built}
 use Rattle.residual.proofs.levels.Kinds as levels
 use Rattle.residual.proofs.levels.Reads as levels-reads
 use Rattle.residual.proofs.rebuild.Kinds as rebuild
 use Rattle.residual.proofs.rebuild.Reads as rebuild-reads
 use Rattle.residual.proofs.rebuild_with_dc.Kinds as rebuild-with-dc
 use Rattle.residual.proofs.rebuild_with_dc.Reads as rebuild-with-dc-reads
+use Rattle.residual.proofs.inner.accepted.Kinds as accepted
+use Rattle.residual.proofs.inner.accepted.Reads as accepted-reads
 use Rattle.residual.proofs.inner.scale.Kinds as scale
 use Rattle.residual.proofs.inner.scale.Reads as scale-reads
 use Rattle.residual.proofs.inner.third.Kinds as third
 use Rattle.residual.proofs.inner.third.Reads as third-reads
-use Rattle.residual.proofs.inner.level.Kinds as level
-use Rattle.residual.proofs.inner.level.Reads as level-reads
-use Rattle.residual.proofs.inner.levels_of.Kinds as levels-of
-use Rattle.residual.proofs.inner.levels_of.Reads as levels-of-reads
+use Rattle.residual.proofs.inner.level_all.Kinds as level-all
+use Rattle.residual.proofs.inner.level_all.Reads as level-all-reads
 use Rattle.residual.proofs.inner.quantized.Kinds as quantized
 use Rattle.residual.proofs.inner.quantized.Reads as quantized-reads
 use Rattle.residual.proofs.inner.in_zigzag.Kinds as in-zigzag
@@ -31,17 +32,17 @@ use Rattle.residual.proofs.inner.rescaled.Reads as rescaled-reads
 use Rattle.residual.proofs.inner.samples.Kinds as samples
 use Rattle.residual.proofs.inner.samples.Reads as samples-reads
 
+pub accepted-unique : Unique 0 accepted.ps accepted.r accepted-reads.Learnt (Unit {0}) (λ κs e. tt)
+accepted-unique κs a x y e f p q = (same-built x y (says-same (p .says) ∙ sym (says-same (q .says))) (p .value ∙ sym (q .value)), refl)
+
 pub scale-unique : Unique 0 scale.ps scale.r scale-reads.Learnt (Unit {0}) (λ κs e. tt)
 scale-unique κs a x y e f p q = (p ∙ sym q, refl)
 
 pub third-unique : Unique 0 third.ps third.r third-reads.Learnt (Unit {0}) (λ κs e. tt)
 third-unique κs a x y e f p q = (p ∙ sym q, refl)
 
-pub level-unique : Unique 0 level.ps level.r level-reads.Learnt (Unit {0}) (λ κs e. tt)
-level-unique κs a x y e f p q = (p ∙ sym q, refl)
-
-pub levels-of-unique : Unique 0 levels-of.ps levels-of.r levels-of-reads.Learnt (Unit {0}) (λ κs e. tt)
-levels-of-unique κs a x y e f p q = (p ∙ sym q, refl)
+pub level-all-unique : Unique 2 level-all.ps level-all.r level-all-reads.Learnt (List ℤ) (λ κs e. now (e .0))
+level-all-unique κs a x y e f p q = (refl, p ∙ sym q)
 
 pub quantized-unique : Unique 0 quantized.ps quantized.r quantized-reads.Learnt (Unit {0}) (λ κs e. tt)
 quantized-unique κs a x y e f p q = (p ∙ sym q, refl)

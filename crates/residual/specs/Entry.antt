@@ -3,19 +3,18 @@
 use mathlib.Core.Path.{_≡_}
 use mathlib.Core.List.{List, [], _∷_, _++_}
 use Prim.Native.Nat.{ℕ, _+_}
-use lib.Dec.{eqb, leb}
 use lib.IntN.{ℤ, pos}
 use lib.ListN.{length}
-use Rattle.lists.specs.Chain.{Test, test, chain, written}
+use Rattle.lists.specs.Chain.{Test, scanTest, chain, written}
 use Rattle.refusal.specs.Number.{said, Says}
+use Rattle.refusal.specs.Tests.{lengthTest}
 use Rattle.refusal.specs.declared.Answer.{Answer}
 use Rattle.refusal.specs.declared.Refusal.{Refusal}
 use Rattle.refusal.specs.declared.Refusal.the-variants as refusal
 use Rattle.whole.specs.Notation.{minus}
 use Rattle.whole.specs.Range.{firstOutside}
 use Rattle.transform.specs.Entry.{outside}
-use Rattle.quantizer.specs.Range.{highest}
-use Rattle.quantizer.specs.Range as built
+use Rattle.quantizer.specs.Range.{quantizerTest, saidBuilt, qpOf}
 use Rattle.quantizer.specs.declared.Built.{Built}
 use Rattle.residual.specs.Levels.{levelsOf}
 use Rattle.residual.specs.Order.{inZigzag}
@@ -25,27 +24,24 @@ use Rattle.residual.specs.Rebuild.{rebuiltSamples, rescaledOf, rescaledW
 abbrev pub firstWide : List ℤ → ℕ
 firstWide l = firstOutside (minus 32768) (pos 32767) l
 
--- QUANTIZER: "QP above 51"
-abbrev pub quantizerTest : ℕ → Test Refusal
-quantizerTest qp = test (leb qp highest) (refusal.Quantizer 0)
-
 -- RANGE: a rescaled or given DC value, "first index, in the order of the levels"
 abbrev pub rangeTest : List ℤ → Test Refusal
-rangeTest d = test (eqb (firstWide (inZigzag d)) 16) (refusal.Range (firstWide (inZigzag d)))
+rangeTest d = scanTest 16 (firstWide (inZigzag d)) refusal.Range
 
--- LENGTH of a lent slice
-abbrev pub lengthTest : {A : Type 0} → ℕ → List A → Test Refusal
-lengthTest n l = test (eqb (length l) n) refusal.Length
+-- ---- LENGTH of what is lent and of the room for what is written, n of each, then QUANTIZER
+
+abbrev pub lentTests : (n qp given room : ℕ) → List (Test Refusal)
+lentTests n qp given room = lengthTest n given ∷ lengthTest n room ∷ quantizerTest 0 qp ∷ []
+
+-- the quantizer, or the refusal
+pub record Accepts (n qp given room : ℕ) (b : Built) : Type 0 where
+  pub says : Says (saidBuilt b) (chain (lentTests n qp given room))
+  pub value : qpOf b ≡ written (chain (lentTests n qp given room)) qp 0
 
 -- ---- levels: LENGTH, QUANTIZER, RESIDUAL
 
 abbrev pub levelsTests : ℕ → List ℤ → List ℤ → List (Test Refusal)
-levelsTests qp residual out =
-    lengthTest 16 residual
-    ∷ lengthTest 16 out
-    ∷ quantizerTest qp
-    ∷ test (eqb (outside residual) 16) (refusal.Residual (outside residual))
-    ∷ []
+levelsTests qp residual out = lentTests 16 qp (length residual) (length out) ++ (scanTest 16 (outside residual) refusal.Residual ∷ [])
 
 pub record Levels (qp : ℕ) (residual out : List ℤ) (r : Answer) (after : List ℤ) : Type 0 where
   pub says : Says (said r) (chain (levelsTests qp residual out))
@@ -61,16 +57,13 @@ pub record Finishes (prediction : List ℕ) (d : List ℤ) (out : List ℕ) (r :
 
 abbrev pub levelTests : (n from qp predicted : ℕ) (levels : List ℤ) (room : ℕ) → List (Test Refusal)
 levelTests n from qp predicted levels room =
-    test (eqb predicted 16) refusal.Length
-    ∷ lengthTest n levels
-    ∷ test (eqb room 16) refusal.Length
-    ∷ quantizerTest qp
-    ∷ test (eqb (firstWide levels) n) (refusal.Level (from + firstWide levels))
-    ∷ []
+    lengthTest n (length levels)
+    ∷ (lentTests 16 qp predicted room ++ (scanTest n (firstWide levels) (λ k. refusal.Level (from + k)) ∷ []))
 
-pub record Accepts (n from qp predicted : ℕ) (levels : List ℤ) (room : ℕ) (b : Built) : Type 0 where
-  pub says : Says (built.said b) (chain (levelTests n from qp predicted levels room))
-  pub value : built.qpOf b ≡ written (chain (levelTests n from qp predicted levels room)) qp 0
+-- the quantizer, or the refusal
+pub record AcceptsLevels (n from qp predicted : ℕ) (levels : List ℤ) (room : ℕ) (b : Built) : Type 0 where
+  pub says : Says (saidBuilt b) (chain (levelTests n from qp predicted levels room))
+  pub value : qpOf b ≡ written (chain (levelTests n from qp predicted levels room)) qp 0
 
 -- ---- rebuild: LENGTH, QUANTIZER, LEVEL, RANGE
 

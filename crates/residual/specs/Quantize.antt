@@ -8,9 +8,9 @@ abbrev pub signed : ℤ → ℕ → ℤ
 signed (pos y) size = pos size
 signed (negsuc y) size = negℤ (pos size)
 
--- the level of y by a multiplier, what is added, and the power of two that divides
+-- the level of y by a multiplier, what is added, and the divisor
 unfoldable pub levelBy : ℕ → ℕ → ℕ → ℤ → ℤ
-levelBy mf f q y = signed y ((natAbs y * mf + f) / 2 ^ q)
+levelBy mf f divisor y = signed y ((natAbs y * mf + f) / divisor)
 
 -- "q=15+p; f=2^q/3 rounded down", p being the period
 abbrev pub qOf : ℕ → ℕ
@@ -21,4 +21,4 @@ fOf p = 2 ^ qOf p / 3
 
 -- the one quantizing rule: s = 0 for a block; 1 for chroma DC, "(|T|*MFa+2f)/2^(q+1)"; 2 for luma DC, "(|T|*MFa+4f)/2^(q+2)"
 abbrev pub levelOf : ℕ → ℕ → ℕ → ℤ → ℤ
-levelOf s p mf y = levelBy mf (2 ^ s * fOf p) (qOf p + s) y
+levelOf s p mf y = levelBy mf (2 ^ s * fOf p) (2 ^ (qOf p + s)) y

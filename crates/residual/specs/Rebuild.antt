@@ -9,13 +9,13 @@ use Rattle.transform.specs.Inverse.{inverse}
 use Rattle.residual.specs.Order.{inPlaces}
 use Rattle.residual.specs.Rescale.{rescaled}
 
--- "sample = prediction + residual, clipped to 0..255"
-unfoldable pub added : List ℕ → List ℤ → List ℕ
-added prediction residual = tab 16 (λ place. clip 255 (pos (getD prediction place 0) +ℤ getD residual place (pos 0)))
+-- "sample = prediction + residual, clipped to 0..255", of n samples
+unfoldable pub added : (n : ℕ) → List ℕ → List ℤ → List ℕ
+added n prediction residual = tab n (λ place. clip 255 (pos (getD prediction place 0) +ℤ getD residual place (pos 0)))
 
 -- the samples of a prediction and of sixteen rescaled numbers in raster order
 unfoldable pub rebuiltSamples : List ℕ → List ℤ → List ℕ
-rebuiltSamples prediction d = added prediction (inverse d)
+rebuiltSamples prediction d = added 16 prediction (inverse d)
 
 -- sixteen levels in zigzag order, rescaled, in raster order
 abbrev pub rescaledOf : ℕ → List ℤ → List ℤ

@@ -1,4 +1,4 @@
-// Levels and rescaled numbers of a block by value, for callers that have tested their numbers.
+// What the entry points test first; levels and rescaled numbers of a block by value, for callers that have tested their numbers.
 ghost use mathlib.Core.Path.{_≡_};
 ghost use Prim.Native.Nat.{ℕ, _*_, _^_, _<_, _≤_};
 ghost use lib.IntN.{ℤ, pos, _+ℤ_, _*ℤ_};
@@ -6,6 +6,7 @@ ghost use lib.ListN.{length, getD};
 ghost use Rattle.lists.specs.Tab.{tab};
 ghost use Rattle.whole.specs.Clip.{clip};
 ghost use Rattle.whole.specs.Bounds.{Within, Each};
+ghost use Rattle.residual.specs.Entry.{Accepts};
 ghost use Rattle.residual.specs.Quantize.{levelBy, fOf};
 ghost use Rattle.residual.specs.Levels.{quantized};
 ghost use Rattle.quantizer.specs.Range.{highest, periodOf, remainderOf};
@@ -13,8 +14,23 @@ ghost use Rattle.quantizer.specs.Tables.{vOf};
 ghost use Rattle.residual.specs.Rescale.{mfAt, vAt, rescaled};
 ghost use Rattle.residual.specs.Rebuild.{added, rebuiltSamples};
 ghost use Rattle.residual.specs.Order.{inZigzag, inPlaces};
+use quantizer::Built;
 use quantizer::Class;
 use quantizer::Quantizer;
+use refusal::Refusal;
+
+// LENGTH of what is lent and of the room for what is written, then QUANTIZER.
+pub fn accepted(n: usize, qp: u8, given: usize, room: usize) -> Built
+    ensures { λ r. ⌜ Accepts n qp given room r ⌝ }
+{
+    if given != n {
+        return Built::Refused(Refusal::Length);
+    }
+    if room != n {
+        return Built::Refused(Refusal::Length);
+    }
+    Quantizer::new(qp)
+}
 
 // The multipliers of the sixteen places.
 pub(crate) fn multipliers(quantizer: Quantizer) -> [u32; 16]
@@ -48,25 +64,25 @@ pub(crate) fn scales(quantizer: Quantizer) -> [u32; 16]
 }
 
 // The level of a coefficient: its size times mf, and f, divided by 2^q; then its sign.
-pub fn level(y: i32, mf: u32, f: u32, q: u32) -> i32
+fn level(y: i32, mf: u32, f: u32, q: u32) -> i32
     requires { ⌜ (Within 65280 y) × (mf ≤ 13107) × (f ≤ 11184810) × (q ≤ 25) ⌝ }
-    ensures { λ r. ⌜ r ≡ levelBy mf f q y ⌝ }
+    ensures { λ r. ⌜ r ≡ levelBy mf f (2 ^ q) y ⌝ }
 {
     let size = (whole::inner::absolute(y) * mf + f) >> q;
     let n = size as i32;
     if y < 0 { 0 - n } else { n }
 }
 
-// The sixteen levels, each by the multiplier of its place.
-pub fn levels_of(y: [i32; 16], mf: [u32; 16], f: u32, q: u32) -> [i32; 16]
-    requires { ⌜ (Each 65280 y) × ((k : ℕ) → k < 16 → getD mf k 0 ≤ 13107) × (f ≤ 11184810) × (q ≤ 25) ⌝ }
-    ensures { λ r. ⌜ r ≡ tab 16 (λ k. levelBy (getD mf k 0) f q (getD y k (pos 0))) ⌝ }
+// Each number of a slice made its level, by the multiplier of its place.
+pub fn level_all(numbers: &mut [i32], mf: &[u32], f: u32, q: u32)
+    requires { ⌜ (Each 65280 (now numbers)) × (length (now mf) ≡ length (now numbers)) × ((k : ℕ) → k < length (now numbers) → getD (now mf) k 0 ≤ 13107) × (f ≤ 11184810) × (q ≤ 25) ⌝ }
+    ensures { λ _. ⌜ now (numbers .exit) ≡ tab (length (now (numbers .entry))) (λ k. levelBy (getD (now (mf .entry)) k 0) f (2 ^ q) (getD (now (numbers .entry)) k (pos 0))) ⌝ }
 {
-    let mut levels = [0i32; 16];
-    for k in 0usize..16 {
-        levels[k] = level(y[k], mf[k], f, q);
+    let mut k = 0;
+    while k < numbers.len() {
+        numbers[k] = level(numbers[k], mf[k], f, q);
+        k += 1;
     }
-    levels
 }
 
 // What is added before a size is divided: a third of the divisor.
@@ -83,14 +99,11 @@ pub fn quantized(quantizer: Quantizer, residual: [i32; 16]) -> [i32; 16]
     requires { ⌜ (quantizer .qp ≤ highest) × (Each 255 residual) ⌝ }
     ensures { λ r. ⌜ r ≡ quantized (quantizer .qp) residual ⌝ }
 {
-    let coefficients = transform::inner::forward_block(residual);
+    let mut levels = transform::inner::forward_block(residual);
+    let mf = multipliers(quantizer);
     let period = quantizer.period();
-    levels_of(
-        coefficients,
-        multipliers(quantizer),
-        third(period),
-        15 + (period as u32),
-    )
+    level_all(&mut levels, &mf, third(period), 15 + (period as u32));
+    levels
 }
 
 // Sixteen numbers from raster order into zigzag order.
@@ -161,7 +174,7 @@ fn sample(prediction: u8, residual: i32) -> u8
 // Sixteen residuals added to their predicted samples, clipped, in their places.
 fn add(samples: &mut [u8], residual: [i32; 16])
     requires { ⌜ (length (now samples) ≡ 16) × (Each 1000000 residual) ⌝ }
-    ensures { λ _. ⌜ now (samples .exit) ≡ added (now (samples .entry)) residual ⌝ }
+    ensures { λ _. ⌜ now (samples .exit) ≡ added 16 (now (samples .entry)) residual ⌝ }
 {
     for place in 0usize..16 {
         samples[place] = sample(samples[place], residual[place]);

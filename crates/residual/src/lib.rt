@@ -2,9 +2,8 @@
 ghost use mathlib.Core.Path.{_≡_};
 ghost use Prim.Native.Nat.{_≤_};
 ghost use lib.ListN.{length};
-ghost use Rattle.residual.specs.Entry.{Levels, Rebuilds, RebuildsWithDc, Accepts, Finishes};
+ghost use Rattle.residual.specs.Entry.{Levels, Rebuilds, RebuildsWithDc, AcceptsLevels, Finishes};
 use quantizer::Built;
-use quantizer::Quantizer;
 use refusal::Answer;
 use refusal::Refusal;
 
@@ -14,24 +13,20 @@ pub mod inner;
 pub fn levels(qp: u8, residual: &[i32], out: &mut [i32]) -> Answer
     ensures { λ r. ⌜ Levels qp (now (residual .entry)) (now (out .entry)) r (now (out .exit)) ⌝ }
 {
-    if residual.len() != 16 {
-        return Answer::Refused(Refusal::Length);
+    match inner::accepted(16, qp, residual.len(), out.len()) {
+        Built::Refused(refusal) => Answer::Refused(refusal),
+        Built::Legal(quantizer) => {
+            let place = whole::inner::first_outside(residual, -255, 255);
+            if place < 16 {
+                return Answer::Refused(Refusal::Residual(place));
+            }
+            let mut x = [0i32; 16];
+            whole::inner::copy(residual, &mut x);
+            let ordered = inner::in_zigzag(inner::quantized(quantizer, x));
+            whole::inner::copy(&ordered, out);
+            Answer::Done
+        }
     }
-    if out.len() != 16 {
-        return Answer::Refused(Refusal::Length);
-    }
-    let Built::Legal(quantizer) = Quantizer::new(qp) else {
-        return Answer::Refused(Refusal::Quantizer(0));
-    };
-    let place = whole::inner::first_outside(residual, -255, 255);
-    if place < 16 {
-        return Answer::Refused(Refusal::Residual(place));
-    }
-    let mut x = [0i32; 16];
-    whole::inner::copy(residual, &mut x);
-    let ordered = inner::in_zigzag(inner::quantized(quantizer, x));
-    whole::inner::copy(&ordered, out);
-    Answer::Done
 }
 
 // RANGE of sixteen rescaled numbers; then the samples, written over a copy of the prediction in `out`.
@@ -50,34 +45,37 @@ fn finished(prediction: &[u8], numbers: [i32; 16], out: &mut [u8]) -> Answer
 }
 
 // LENGTH, QUANTIZER and LEVEL of n levels whose indexes count from `from`.
-fn accepted(n: usize, from: usize, qp: u8, predicted: usize, levels: &[i32], room: usize) -> Built
+fn levels_accepted(
+    n: usize,
+    from: usize,
+    qp: u8,
+    predicted: usize,
+    levels: &[i32],
+    room: usize,
+) -> Built
     requires { ⌜ from ≤ 1 ⌝ }
-    ensures { λ r. ⌜ Accepts n from qp predicted (now (levels .entry)) room r ⌝ }
+    ensures { λ r. ⌜ AcceptsLevels n from qp predicted (now (levels .entry)) room r ⌝ }
 {
-    if predicted != 16 {
-        return Built::Refused(Refusal::Length);
-    }
     if levels.len() != n {
         return Built::Refused(Refusal::Length);
     }
-    if room != 16 {
-        return Built::Refused(Refusal::Length);
+    match inner::accepted(16, qp, predicted, room) {
+        Built::Refused(refusal) => Built::Refused(refusal),
+        Built::Legal(quantizer) => {
+            let place = whole::inner::first_outside(levels, -32768, 32767);
+            if place < n {
+                return Built::Refused(Refusal::Level(from + place));
+            }
+            Built::Legal(quantizer)
+        }
     }
-    let Built::Legal(quantizer) = Quantizer::new(qp) else {
-        return Built::Refused(Refusal::Quantizer(0));
-    };
-    let place = whole::inner::first_outside(levels, -32768, 32767);
-    if place < n {
-        return Built::Refused(Refusal::Level(from + place));
-    }
-    Built::Legal(quantizer)
 }
 
 // The samples of a prediction and sixteen levels in zigzag order.
 pub fn rebuild(qp: u8, prediction: &[u8], levels: &[i32], out: &mut [u8]) -> Answer
     ensures { λ r. ⌜ Rebuilds qp (now (prediction .entry)) (now (levels .entry)) (now (out .entry)) r (now (out .exit)) ⌝ }
 {
-    match accepted(16, 0, qp, prediction.len(), levels, out.len()) {
+    match levels_accepted(16, 0, qp, prediction.len(), levels, out.len()) {
         Built::Refused(refusal) => Answer::Refused(refusal),
         Built::Legal(quantizer) => {
             let numbers = inner::rescaled(quantizer, inner::placed(levels));
@@ -90,7 +88,7 @@ pub fn rebuild(qp: u8, prediction: &[u8], levels: &[i32], out: &mut [u8]) -> Ans
 pub fn rebuild_with_dc(qp: u8, prediction: &[u8], dc: i32, ac: &[i32], out: &mut [u8]) -> Answer
     ensures { λ r. ⌜ RebuildsWithDc qp (now (prediction .entry)) dc (now (ac .entry)) (now (out .entry)) r (now (out .exit)) ⌝ }
 {
-    match accepted(15, 1, qp, prediction.len(), ac, out.len()) {
+    match levels_accepted(15, 1, qp, prediction.len(), ac, out.len()) {
         Built::Refused(refusal) => Answer::Refused(refusal),
         Built::Legal(quantizer) => {
             let mut l = [0i32; 16];

@@ -18,7 +18,7 @@ use Rattle.lists.proofs.Total.{total-low, term-low}
 use Rattle.refusal.proofs.Same.{says-same}
 use Rattle.record.specs.Entry.{sizeHolds}
 use Rattle.picture.specs.Plane.{layoutOf}
-use Rattle.sheet.specs.Entry.{firstFlag, planeTests, sheetTests, said, givenIn, Sheets}
+use Rattle.sheet.specs.Entry.{firstFlag, planeTests, sheetTests, saidSheeted, givenIn, Sheets}
 use Rattle.sheet.specs.Errors.{isPresent, presentCount}
 use Rattle.sheet.specs.Means.{nothing, given, sheetOf, givenOf}
 use Rattle.sheet.specs.declared.Sheet.{Sheet}
@@ -80,7 +80,7 @@ module _ (width height : ℕ) (original rebuilt map : List ℕ) where
 
       only : r ≡ answer.Nothing → AllPass (sheetTests width height original rebuilt map) × ((m : ℕ) → m < width * height → getD map m 0 ≡ 0)
       only e =
-          let v : chain (sheetTests width height original rebuilt map) ≡ pass = sym (says-same (p .says)) ∙ ap said e in
+          let v : chain (sheetTests width height original rebuilt map) ≡ pass = sym (says-same (p .says)) ∙ ap saidSheeted e in
           let a = chain-exactly-if (sheetTests width height original rebuilt map) .passes .0 v in
           (a, none-given (a .1) .0 (sym (come v) ∙ ap givenIn e))
 

@@ -23,7 +23,7 @@ use Rattle.record.proofs.Heads.{sized-of}
 use Rattle.picture.specs.Order.{Sound}
 use Rattle.picture.specs.Plane.{layoutOf, planeLength}
 use Rattle.sheet.specs.Code.{ofTotals, SumsOver, presentTotal, sheetFrom, Carried}
-use Rattle.sheet.specs.Entry.{firstFlag, sheetTests, writeTests, said, givenIn, Sheets, Writes}
+use Rattle.sheet.specs.Entry.{firstFlag, sheetTests, writeTests, saidSheeted, givenIn, Sheets, Writes}
 use Rattle.sheet.specs.Errors.{presentCount}
 use Rattle.sheet.specs.Means.{Given, nothing, given, dividedOnce, sheetOf, givenOf, areaOf}
 use Rattle.sheet.specs.declared.Sheet.{Sheet}
@@ -32,7 +32,7 @@ use Rattle.sheet.specs.declared.Sheeted.the-variants as answer
 use Rattle.sheet.specs.declared.sums.Totals.{Totals}
 use Rattle.sheet.proofs.Places.{absolute-sum, squared-sum, signed-sum}
 
-pub same-sheeted : (x y : Sheeted) → said x ≡ said y → givenIn x ≡ givenIn y → x ≡ y
+pub same-sheeted : (x y : Sheeted) → saidSheeted x ≡ saidSheeted y → givenIn x ≡ givenIn y → x ≡ y
 same-sheeted (answer.Sheet s) (answer.Sheet t) e g = let p : s ≡ t = cc in ap answer.Sheet p
 same-sheeted (answer.Sheet s) answer.Nothing e g = cc
 same-sheeted (answer.Sheet s) (answer.Refused r) e g = cc
@@ -49,7 +49,7 @@ sound-of width height e = let s = sized-of width height e in record { some = s .
 -- ---- a law for each answer
 
 module _ (width height : ℕ) (original rebuilt map : List ℕ) where
-  pub quality-sheet-refuses-exactly-if : (r : Sheeted) → Sheets width height original rebuilt map r → ExactlyIf (sheetTests width height original rebuilt map) (said r)
+  pub quality-sheet-refuses-exactly-if : (r : Sheeted) → Sheets width height original rebuilt map r → ExactlyIf (sheetTests width height original rebuilt map) (saidSheeted r)
   quality-sheet-refuses-exactly-if r p = says-exactly-if (sheetTests width height original rebuilt map) (p .says)
 
   abbrev samples : ℕ

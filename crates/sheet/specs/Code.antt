@@ -11,7 +11,7 @@ use Rattle.lists.specs.Total.{total, distance}
 use Rattle.picture.specs.declared.Layout.{Layout}
 use Rattle.picture.specs.Order.{blockColumn, blockRow}
 use Rattle.picture.specs.Plane.{stride, planeLength}
-use Rattle.sheet.specs.Entry.{said, givenIn}
+use Rattle.sheet.specs.Entry.{saidSheeted, givenIn}
 use Rattle.sheet.specs.Errors.{isPresent}
 use Rattle.sheet.specs.Means.{nothing, given, dividedOnce}
 use Rattle.sheet.specs.declared.Sheet.{Sheet}
@@ -122,5 +122,5 @@ sheetFrom present t = record {
 }
 
 pub record Carried (present : ℕ) (t : Totals) (r : Sheeted) : Type 0 where
-  pub said : said r ≡ pass
+  pub said : saidSheeted r ≡ pass
   pub given : givenIn r ≡ cond (eqb present 0) nothing (given (sheetFrom present t))

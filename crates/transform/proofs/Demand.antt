@@ -23,7 +23,7 @@ use Rattle.whole.proofs.Range.{each-none}
 use Rattle.refusal.specs.Number.{said}
 use Rattle.refusal.proofs.Same.{says-same}
 use Rattle.transform.specs.Carried.{weighted, carriedBack, scaled, products, Coefficients}
-use Rattle.transform.specs.Entry.{outside, tests, Takes}
+use Rattle.transform.specs.Entry.{outside, forwardTests, Takes}
 use Rattle.transform.specs.Forward.{forward}
 use Rattle.transform.proofs.Carried.{carried-back, products-agree, one-block-only}
 use Rattle.transform.proofs.Entry.{in-range, small}
@@ -31,10 +31,10 @@ use Rattle.transform.proofs.forward.Kinds as call
 use Rattle.transform.proofs.forward.Reads as reads
 
 -- the tests of `forward` pass exactly then
-pub takes-exactly-if : (x before : List ℤ) → (chain (tests x before) ≡ pass) ↔ Takes x before
+pub takes-exactly-if : (x before : List ℤ) → (chain (forwardTests x before) ≡ pass) ↔ Takes x before
 takes-exactly-if x before = (
   λ e.
-      let a = chain-exactly-if (tests x before) .passes .0 e in
+      let a = chain-exactly-if (forwardTests x before) .passes .0 e in
       let long = eqb-true (length x) 16 (a .0) in
       record { long = long; room = eqb-true (length before) 16 (a .1 .0); small = small x before long (omega (arith, eqb-true (outside x) 16 (a .1 .1 .0))) },
   λ t. in-range x before (t .long) (t .room) (omega (arith, t .long, each-none (minus 255) (pos 255) x 255 tt tt (t .small))),

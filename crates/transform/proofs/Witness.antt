@@ -10,7 +10,7 @@ use lib.Signed.{quotZ}
 use Rattle.lists.specs.Chain.{chain, stop}
 use Rattle.lists.specs.Tab.{tab}
 use Rattle.refusal.specs.declared.Refusal.the-variants.{Length}
-use Rattle.transform.specs.Entry.{tests}
+use Rattle.transform.specs.Entry.{forwardTests}
 use Rattle.transform.specs.Inverse.{back, rounded, inverse}
 use Rattle.transform.specs.Matrix.{Line, eachRow, eachColumn, raster, entries}
 
@@ -39,5 +39,5 @@ pub halvings-fall : (getD (inverse one) 6 (pos 0) ≡ negsuc 0)
 unfolding inverse tab
 halvings-fall = (refl, refl, refl)
 
-pub length-comes-first : chain (tests (replicate 17 (pos 256)) (replicate 16 (pos 0))) ≡ stop Length
+pub length-comes-first : chain (forwardTests (replicate 17 (pos 256)) (replicate 16 (pos 0))) ≡ stop Length
 length-comes-first = refl

@@ -3,10 +3,9 @@
 use mathlib.Core.Path.{_≡_}
 use mathlib.Core.List.{List, [], _∷_}
 use Prim.Native.Nat.{ℕ}
-use lib.Dec.{eqb}
 use lib.IntN.{ℤ, pos}
 use lib.ListN.{length}
-use Rattle.lists.specs.Chain.{Test, test, chain, written}
+use Rattle.lists.specs.Chain.{Test, scanTest, chain, written}
 use Rattle.whole.specs.Bounds.{Each}
 use Rattle.whole.specs.Notation.{minus}
 use Rattle.whole.specs.Range.{firstOutside}
@@ -14,6 +13,7 @@ use Rattle.refusal.specs.Number.{said, Says}
 use Rattle.refusal.specs.declared.Answer.{Answer}
 use Rattle.refusal.specs.declared.Refusal.{Refusal}
 use Rattle.refusal.specs.declared.Refusal.the-variants as refusal
+use Rattle.refusal.specs.Tests.{lengthTest}
 use Rattle.transform.specs.Forward.{forward}
 
 -- "residual outside -255..255", "first index"
@@ -21,16 +21,14 @@ abbrev pub outside : List ℤ → ℕ
 outside residual = firstOutside (minus 255) (pos 255) residual
 
 -- LENGTH, then RESIDUAL
-abbrev pub tests : List ℤ → List ℤ → List (Test Refusal)
-tests residual coefficients =
-    test (eqb (length residual) 16) refusal.Length
-    ∷ test (eqb (length coefficients) 16) refusal.Length
-    ∷ test (eqb (outside residual) 16) (refusal.Residual (outside residual)) ∷ []
+abbrev pub forwardTests : List ℤ → List ℤ → List (Test Refusal)
+forwardTests residual coefficients =
+    lengthTest 16 (length residual) ∷ lengthTest 16 (length coefficients) ∷ scanTest 16 (outside residual) refusal.Residual ∷ []
 
 -- the coefficients of the residuals, or the refusal
-pub record Forwards (residual before after : List ℤ) (answer : Answer) : Type 0 where
-  pub says : Says (said answer) (chain (tests residual before))
-  pub wrote : after ≡ written (chain (tests residual before)) (forward residual) before
+pub record Forwards (residual before : List ℤ) (r : Answer) (after : List ℤ) : Type 0 where
+  pub says : Says (said r) (chain (forwardTests residual before))
+  pub wrote : after ≡ written (chain (forwardTests residual before)) (forward residual) before
 
 -- what it accepts: sixteen residuals in -255..255, and room for sixteen coefficients
 pub record Takes (residual before : List ℤ) : Type 0 where

@@ -1,5 +1,6 @@
 -- "Y = C X C-transposed" (01, "Transform, quantizer, rescaling"). Assumes nothing.
 use mathlib.Core.List.{List, [], _∷_}
+use Prim.Native.Nat.{ℕ}
 use lib.IntN.{ℤ, pos}
 use Rattle.whole.specs.Notation.{minus}
 use Rattle.transform.specs.Matrix.{Matrix, product, transposed, raster, entries}
@@ -13,6 +14,10 @@ C =
     ∷ pos 1 ∷ minus 1 ∷ minus 1 ∷ pos 1
     ∷ pos 1 ∷ minus 2 ∷ pos 2 ∷ minus 1 ∷ [])
 
--- the coefficients of a block's sixteen residuals
+-- the coefficients of n by n residuals by a matrix
+abbrev pub forwardBy : (n : ℕ) → Matrix → List ℤ → List ℤ
+forwardBy n M x = entries n (product n M (product n (raster n x) (transposed M)))
+
+-- those of a block's sixteen residuals
 unfoldable pub forward : List ℤ → List ℤ
-forward x = entries 4 (product 4 C (product 4 (raster 4 x) (transposed C)))
+forward x = forwardBy 4 C x

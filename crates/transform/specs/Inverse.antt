@@ -1,5 +1,6 @@
 -- "Inverse, each row first, then each column" (01, "Transform, quantizer, rescaling"; ITU-T H.264, 8.5.12.2). Assumes nothing.
 use mathlib.Core.List.{List, [], _∷_}
+use Prim.Native.Nat.{ℕ}
 use lib.IntN.{ℤ, pos, _+ℤ_, _-ℤ_}
 use lib.ListN.{getD}
 use Rattle.whole.specs.Notation.{_>>_}
@@ -26,6 +27,10 @@ back w = λ place. getD (butterfly (w 0) (w 1) (w 2) (w 3)) place (pos 0)
 abbrev pub rounded : ℤ → ℤ
 rounded z = (z +ℤ pos 32) >> 6
 
--- the residuals of a block's sixteen rescaled coefficients
+-- the residuals of n by n rescaled coefficients, by what is made of a row or a column
+abbrev pub inverseBy : (n : ℕ) → (Line → Line) → List ℤ → List ℤ
+inverseBy n line d = entries n (λ row column. rounded (eachColumn line (eachRow line (raster n d)) row column))
+
+-- those of a block's sixteen
 unfoldable pub inverse : List ℤ → List ℤ
-inverse d = entries 4 (λ row column. rounded (eachColumn back (eachRow back (raster 4 d)) row column))
+inverse d = inverseBy 4 back d

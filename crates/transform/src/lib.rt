@@ -8,7 +8,7 @@ pub mod inner;
 
 // The coefficients of sixteen residuals, each within -255..255.
 pub fn forward(residual: &[i32], coefficients: &mut [i32]) -> Answer
-    ensures { λ r. ⌜ Forwards (now (residual .entry)) (now (coefficients .entry)) (now (coefficients .exit)) r ⌝ }
+    ensures { λ r. ⌜ Forwards (now (residual .entry)) (now (coefficients .entry)) r (now (coefficients .exit)) ⌝ }
 {
     if residual.len() != 16 {
         return Answer::Refused(Refusal::Length);

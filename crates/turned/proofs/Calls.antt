@@ -11,22 +11,21 @@ use lib.IntN.{ℤ, pos, negsuc}
 use lib.ListN.{length}
 use Rattle.lists.specs.Chain.{Test, Verdict, pass, chain}
 use Rattle.lists.proofs.Chain.{chain-exactly-if, holds-new}
-use Rattle.lists.proofs.Every.{both-true}
 use Rattle.lists.proofs.Tab.{length-tab}
 use Rattle.lists.proofs.Turned.{length-turned}
 use Rattle.whole.proofs.Range.{none-each, each-none}
 use Rattle.refusal.specs.declared.Refusal.{Refusal}
-use Rattle.transform.specs.Entry as transform
+use Rattle.transform.specs.Entry.{outside, forwardTests}
 use Rattle.transform.specs.Forward.{forward}
 use Rattle.transform.proofs.Squares.{turned-each}
 use Rattle.residual.specs.Entry.{levelsTests}
 use Rattle.residual.specs.Levels.{quantized, levelsOf}
 use Rattle.residual.specs.Order.{inPlaces}
 use Rattle.residual.proofs.Order.{places-again}
-use Rattle.predict.specs.Entry.{predictTests}
-use Rattle.predict.specs.Rules.{Predicted, samples, none, samplesOf, predicted}
-use Rattle.predict.specs.Samples.{mask}
-use Rattle.predict.proofs.Masked.{none-exactly-if}
+use Rattle.intra4.specs.Entry.{predictTests}
+use Rattle.intra4.specs.Rules.{Predicted, samples, none, samplesOf, predicted}
+use Rattle.intra4.specs.Samples.{mask}
+use Rattle.intra4.proofs.Masked.{none-exactly-if}
 use Rattle.fleecebutton.specs.Word.{wordOf}
 use Rattle.fleecebutton.proofs.Told.{done-exactly-if, passed-word}
 use Rattle.turned.specs.Square.{turnedBlock, turnedSamples}
@@ -41,24 +40,24 @@ done-word ts value e v = ap (λ (u : ℕ). u % 256) e ∙ done-exactly-if ts val
 
 -- ---- residuals in range are so turned: the last test of `forward` and `levels`
 
-turned-inside : (x : List ℤ) → length x ≡ 16 → transform.outside x ≡ 16 → transform.outside (turnedBlock x) ≡ 16
+turned-inside : (x : List ℤ) → length x ≡ 16 → outside x ≡ 16 → outside (turnedBlock x) ≡ 16
 turned-inside x long e =
     each-none (negsuc 254) (pos 255) (turnedBlock x) 255 tt tt (turned-each 4 255 x (none-each (negsuc 254) (pos 255) x 255 tt tt (omega (arith, long, e))))
     ∙ length-turned 4 (pos 0) x
 
-forward-passes : (x before before′ : List ℤ) → length before′ ≡ 16 → chain (transform.tests x before) ≡ pass → chain (transform.tests (turnedBlock x) before′) ≡ pass
+forward-passes : (x before before′ : List ℤ) → length before′ ≡ 16 → chain (forwardTests x before) ≡ pass → chain (forwardTests (turnedBlock x) before′) ≡ pass
 forward-passes x before before′ room v =
-    let all = chain-exactly-if (transform.tests x before) .passes .0 v in
+    let all = chain-exactly-if (forwardTests x before) .passes .0 v in
     let inside = turned-inside x (eqb-true _ _ (all .0)) (eqb-true _ _ (all .1 .1 .0)) in
-    chain-exactly-if (transform.tests (turnedBlock x) before′) .passes .1
+    chain-exactly-if (forwardTests (turnedBlock x) before′) .passes .1
     (eq-eqb _ _ (length-turned 4 (pos 0) x), (eq-eqb _ _ room, (eq-eqb _ _ inside, tt)))
 
 pub fb-forward-turns : FbForwardTurns
 fb-forward-turns c c′ x room d =
-    let v = passed-word (transform.tests (forwardResidual c) (forwardBefore c)) 0 (c .learnt .word) d in
+    let v = passed-word (forwardTests (forwardResidual c) (forwardBefore c)) 0 (c .learnt .word) d in
     let t = forward-passes (forwardResidual c) (forwardBefore c) (forwardBefore c′) room v in
-    let v′ = ap (λ (l : List ℤ). chain (transform.tests l (forwardBefore c′))) x ∙ t in (
-      done-word (transform.tests (forwardResidual c′) (forwardBefore c′)) 0 (c′ .learnt .word) v′,
+    let v′ = ap (λ (l : List ℤ). chain (forwardTests l (forwardBefore c′))) x ∙ t in (
+      done-word (forwardTests (forwardResidual c′) (forwardBefore c′)) 0 (c′ .learnt .word) v′,
       holds-new (forwardBefore c′) v′ (c′ .learnt .wrote) ∙ ap forward x ∙ coefficients-turn (forwardResidual c)
           ∙ ap turnedBlock (sym (holds-new (forwardBefore c) v (c .learnt .wrote))),
     )
@@ -99,9 +98,9 @@ module _ {n n′ before before′ : List ℕ} {f f′ m m′ : ℕ} (x : CallsEx
   same-samples : chain (predictTests n f m before) ≡ pass → samplesOf (predicted (mask n′ f′) m′) ≡ turnedSamples (samplesOf (predicted (mask n f) m))
   same-samples v =
       let all = chain-exactly-if (predictTests n f m before) .passes .0 v in
-      let long : length n ≡ 13 = eqb-true _ _ (both-true _ _ (all .0) .0) in
+      let long : length n ≡ 13 = eqb-true _ _ (all .0) in
       ap samplesOf (prediction-turns m m′ (x .modes) n n′ f f′ long (x .neighbours))
-      ∙ some (predicted (mask n f) m) (λ e. false≢true (sym (none-exactly-if n f m long .0 e) ∙ all .1 .1 .0))
+      ∙ some (predicted (mask n f) m) (λ e. false≢true (sym (none-exactly-if n f m long .0 e) ∙ all .1 .1 .1 .0))
     where
       some : (p : Predicted) → (p ≡ none → ⊥) → samplesOf (turnedPrediction p) ≡ turnedSamples (samplesOf p)
       some (samples l) h = refl

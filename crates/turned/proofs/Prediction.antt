@@ -14,10 +14,10 @@ use lib.ListN.{length, getD, replicate}
 use Rattle.lists.specs.Tab.{tab, grid, turned}
 use Rattle.lists.specs.Total.{total}
 use Rattle.lists.proofs.Every.{same-test}
-use Rattle.predict.specs.Samples.{Round, cornerOf, aboveOf, upperRightOf, leftOf, bitOf, sideIf, mask}
-use Rattle.predict.specs.Rules.{samples, predicted, permitted, avg3, rowOf, vertical, horizontal, downRight, verticalRight}
-use Rattle.predict.proofs.Masked.{thirteen}
-use Rattle.predict.proofs.Missing.{same-side}
+use Rattle.intra4.specs.Samples.{Round, cornerOf, aboveOf, upperRightOf, leftOf, bitOf, sideIf, mask}
+use Rattle.intra4.specs.Rules.{samples, predicted, permitted, avg3, rowOf, vertical, horizontal, downRight, verticalRight}
+use Rattle.intra4.proofs.Masked.{thirteen}
+use Rattle.intra4.proofs.Missing.{same-side}
 use Rattle.turned.specs.Exchanged.{Exchanged, exchangedNeighbours, exchangedFlags, Becomes, from-vertical, from-horizontal, dc-stays, down-right-stays, from-vertical-right, from-horizontal-down, turnedPrediction}
 use Rattle.turned.specs.Claims.{PermittedTurns, PredictionTurns}
 use Rattle.turned.specs.Calls.{CallsExchanged}

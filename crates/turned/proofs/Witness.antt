@@ -24,8 +24,8 @@ use Rattle.whole.specs.Clip.{clip}
 use Rattle.whole.specs.Range.{inside, firstOutside}
 use Rattle.transform.specs.Forward.{forward}
 use Rattle.transform.specs.Inverse.{inverse}
-use Rattle.predict.specs.Samples.{bitOf, mask}
-use Rattle.predict.specs.Rules.{none, samplesOf, predicted, vertical, horizontal, downLeft, downRight, verticalRight, verticalLeft, horizontalUp}
+use Rattle.intra4.specs.Samples.{bitOf, mask}
+use Rattle.intra4.specs.Rules.{none, samplesOf, predicted, vertical, horizontal, downLeft, downRight, verticalRight, verticalLeft, horizontalUp}
 use Rattle.residual.specs.Levels.{quantized, levelsOf}
 use Rattle.residual.specs.Order.{inZigzag, inPlaces}
 use Rattle.residual.specs.Quantize.{levelBy}

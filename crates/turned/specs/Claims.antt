@@ -11,8 +11,8 @@ use Rattle.transform.specs.Matrix.{Matrix, product, transposed, raster, entries
 use Rattle.residual.specs.Entry.{levelsTests}
 use Rattle.residual.specs.Levels.{quantized, levelsOf}
 use Rattle.residual.specs.Rebuild.{rebuiltSamples, rescaledOf}
-use Rattle.predict.specs.Samples.{mask}
-use Rattle.predict.specs.Rules.{predicted, permitted}
+use Rattle.intra4.specs.Samples.{mask}
+use Rattle.intra4.specs.Rules.{predicted, permitted}
 use Rattle.turned.specs.Square.{turnedBlock, turnedSamples}
 use Rattle.turned.specs.Exchanged.{Exchanged, Becomes, turnedPrediction}
 

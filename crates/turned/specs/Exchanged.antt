@@ -4,8 +4,8 @@ use mathlib.Core.Path.{_≡_}
 use mathlib.Core.Bool.{true}
 use mathlib.Core.List.{List, _++_}
 use Prim.Native.Nat.{ℕ, _+_, _*_, _/_, _%_}
-use Rattle.predict.specs.Samples.{cornerOf, aboveOf, upperRightOf, leftOf, bitOf}
-use Rattle.predict.specs.Rules.{Predicted, samples, none}
+use Rattle.intra4.specs.Samples.{cornerOf, aboveOf, upperRightOf, leftOf, bitOf}
+use Rattle.intra4.specs.Rules.{Predicted, samples, none}
 use Rattle.turned.specs.Square.{turnedSamples}
 
 -- n′ with the flags f′ is n with the flags f, A-D and I-L exchanged, M kept. Samples count where they are present.

@@ -1,6 +1,7 @@
 -- Laws of the range test and of the first number outside a range.
 --     inside-true, inside-within, within-inside               the test, as two tests and as a bound
 --     outside-le, outside-before, first-offence               the place: inside the list or its end; a place exactly if this one is outside, none before
+--     at-end                                                  a scan that found none before the end of n numbers
 --     none-outside, none-each, all-inside, each-none          where it is the end: each is inside, and within a bound; and back
 -- Assumes nothing.
 use mathlib.Core.Path.{_≡_, sym, ap, _∙_}
@@ -53,6 +54,10 @@ module _ (low high : ℤ) where
     pub outside-le : firstOutside low high l ≤ length l
     unfolding firstOutside
     outside-le = first-le outsideAt (length l)
+
+    -- a scan that found nothing before n of n numbers ended there
+    pub at-end : (n : ℕ) → length l ≡ n → n ≤ firstOutside low high l → firstOutside low high l ≡ n
+    at-end n e h = omega (arith, outside-le)
 
     -- none before is
     pub outside-before : (i : ℕ) → i < firstOutside low high l → inside low high (getD l i (pos 0)) ≡ true

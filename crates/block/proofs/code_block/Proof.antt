@@ -5,9 +5,9 @@ use native.Mathlib.Omega.{arith}
 use borrow.Author.Needs.{needs}
 use Rattle.lists.proofs.Parts.{copied}
 use Rattle.quantizer.specs.Range.{highest}
-use Rattle.quantizer.proofs.Range.{built-legal, built-refused}
+use Rattle.quantizer.proofs.Range.{built-legal, built-stops}
 use Rattle.block.proofs.Carried.{carried-long}
-use Rattle.block.proofs.Outcome.{few-neighbours, few-samples, few-levels, few-rebuilt, high-flags, high-quantizer, coded-done}
+use Rattle.block.proofs.Outcome.{few-neighbours, few-samples, few-levels, few-rebuilt, high-flags, quantizer-refused, coded-done}
 use Rattle.block.proofs.code_block.Statement.{statement}
 use Rattle.block.proofs.code_block.Tie as tie
 
@@ -36,11 +36,11 @@ legal c = built-legal (c .before .before .before .before .before .before .before
 
 returns-6 : tie.Need-returns-6
 returns-6 c =
-    let n = c .before .before in
+    let n = c .before .before .before in
     let f = n .before in
     let s = f .before .before .before in
-    high-quantizer _ _ _ _ _ _ (s .before .if1 .left) (s .if2 .left) (f .before .before .if3 .left) (f .before .if4 .left) (f .if5 .left)
-    (built-refused _ (n .new .ensures) (c .enum-told .given .1))
+    quantizer-refused _ _ _ _ _ _ (s .before .if1 .left) (s .if2 .left) (f .before .before .if3 .left) (f .before .if4 .left) (f .if5 .left)
+    (built-stops _ (n .new .ensures) (c .before .refusal .given .1))
 
 coded-requires : tie.Need-coded-requires
 coded-requires c κs =
@@ -83,12 +83,12 @@ code-block-spec =
     (λ c κs. search needs)
     (λ c. search needs)
     (λ c. search needs)
-    returns-6
     coded-requires
     (λ c. search needs)
     copy-requires
     (λ c. search needs)
     copy-requires-2
+    returns-6
     (λ c. search needs)
     (λ c. search needs)
     returns-7)

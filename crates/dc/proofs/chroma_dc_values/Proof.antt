@@ -1,21 +1,20 @@
 -- `dc::chroma_dc_values` meets its contract: each verdict by its law, and the values by value between two copies. Assumes nothing.
 use borrow.Author.Needs.{needs}
-use mathlib.Core.Path.{_≡_, sym, ap, _∙_}
+use mathlib.Core.Path.{_≡_, refl, sym, ap, _∙_}
 use mathlib.Core.List.{[], _∷_}
 use Prim.Native.Nat.{ℕ}
 use native.Mathlib.Omega.{arith}
 use lib.IntN.{pos, negsuc}
 use lib.ListN.{length}
-use Rattle.lists.specs.Chain.{stop}
-use Rattle.lists.proofs.Chain.{chain-passed, chain-refused, written-passed, written-refused}
+use Rattle.lists.specs.Chain.{scanTest, stop}
+use Rattle.lists.proofs.Chain.{chain-refused, scan-none, scan-found, written-passed, written-refused}
+use Rattle.whole.proofs.Range.{at-end}
 use Rattle.refusal.specs.declared.Refusal.the-variants.{Level, Range}
 use Rattle.refusal.proofs.Same.{says}
 use Rattle.transform.proofs.Sides.{kept}
-use Rattle.residual.specs.Entry.{firstWide}
-use Rattle.residual.proofs.Entry.{wide-each}
+use Rattle.residual.specs.Entry.{firstWide, lentTests}
+use Rattle.residual.proofs.Entry.{wide-each, Accepted, accepted-legal, accepted-refused}
 use Rattle.dc.specs.Dc.{chromaValues}
-use Rattle.dc.specs.Entry.{levelTest, rasterRangeTest, lentTests}
-use Rattle.dc.proofs.Entry.{Accepted, accepted-legal, accepted-refused, place-found, place-none, at-end}
 use Rattle.dc.proofs.Values.{chroma-values-length}
 use Rattle.dc.proofs.chroma_dc_values.Statement.{statement}
 use Rattle.dc.proofs.chroma_dc_values.Tie as tie
@@ -60,8 +59,7 @@ returns c =
     let values = chromaValues (s .args .qp) (s .args .levels .now) in
     let is = f .first-outside .ensures in
     let e =
-    chain-passed (lentTests 4 (s .args .qp) (length levels) (length (s .args .dc .now))) (levelTest 4 levels ∷ rasterRangeTest 4 values ∷ []) (told f .passed)
-    ∙ place-found 4 (firstWide levels) (Level (firstWide levels)) (rasterRangeTest 4 values ∷ []) (omega (arith, is, c .if1 .taken)) in
+    scan-found (lentTests 4 (s .args .qp) (length levels) (length (s .args .dc .now))) (told f .passed) 4 (firstWide levels) Level (scanTest 4 (firstWide values) Range ∷ []) (omega (arith, is, c .if1 .taken)) in
     record { says = says (ap (λ (k : ℕ). stop (Level k)) is ∙ sym e); wrote = written-refused values e }
 
 slice-aggregate-copy : tie.Need-slice-aggregate-copy
@@ -92,9 +90,8 @@ returns-2 c =
     let levels = s .args .levels .now in
     let values = chromaValues (s .args .qp) (s .args .levels .now) in
     let e =
-    chain-passed (lentTests 4 (s .args .qp) (length levels) (length (s .args .dc .now))) (levelTest 4 levels ∷ rasterRangeTest 4 values ∷ []) (told f .passed)
-    ∙ place-none 4 (firstWide levels) (Level (firstWide levels)) (rasterRangeTest 4 values ∷ []) (none (w .before))
-    ∙ place-found 4 (firstWide values) (Range (firstWide values)) [] (omega (arith, found g, c .if2 .taken)) in
+    scan-none (lentTests 4 (s .args .qp) (length levels) (length (s .args .dc .now))) (told f .passed) 4 (firstWide levels) Level (scanTest 4 (firstWide values) Range ∷ []) (none (w .before))
+    ∙ scan-found [] refl 4 (firstWide values) Range [] (omega (arith, found g, c .if2 .taken)) in
     record { says = says (ap (λ (k : ℕ). stop (Range k)) (found g) ∙ sym e); wrote = written-refused values e }
 
 slice-aggregate-copy-2 : tie.Need-slice-aggregate-copy-2
@@ -114,7 +111,7 @@ returns-3 c =
     let levels = s .args .levels .now in
     let values = chromaValues (s .args .qp) (s .args .levels .now) in
     let e =
-    chain-refused (lentTests 4 (s .args .qp) (length levels) (length (s .args .dc .now))) (levelTest 4 levels ∷ rasterRangeTest 4 values ∷ []) _
+    chain-refused (lentTests 4 (s .args .qp) (length levels) (length (s .args .dc .now))) (scanTest 4 (firstWide levels) Level ∷ scanTest 4 (firstWide values) Range ∷ []) _
     (accepted-refused 4 (s .args .qp) (length levels) (length (s .args .dc .now)) (a .accepted .ensures) (c .before .refusal .given .1)) in
     record { says = says (sym e); wrote = written-refused values e }
 
@@ -132,9 +129,8 @@ returns-4 c =
     let values = chromaValues (s .args .qp) (s .args .levels .now) in
     let end = at-end (negsuc 32767) (pos 32767) values 4 (chroma-values-length (s .args .qp) levels) (omega (arith, found g, o .if2 .left)) in
     let e =
-    chain-passed (lentTests 4 (s .args .qp) (length levels) (length (s .args .dc .now))) (levelTest 4 levels ∷ rasterRangeTest 4 values ∷ []) (told f .passed)
-    ∙ place-none 4 (firstWide levels) (Level (firstWide levels)) (rasterRangeTest 4 values ∷ []) (none (w .before))
-    ∙ place-none 4 (firstWide values) (Range (firstWide values)) [] end in
+    scan-none (lentTests 4 (s .args .qp) (length levels) (length (s .args .dc .now))) (told f .passed) 4 (firstWide levels) Level (scanTest 4 (firstWide values) Range ∷ []) (none (w .before))
+    ∙ scan-none [] refl 4 (firstWide values) Range [] end in
     record { says = says (sym e); wrote = written-passed (s .args .dc .now) e (c .before .copy2 .ensures ∙ made (g .before .before)) }
 
 pub chroma-dc-values-spec : {M : Type 1} → statement M

@@ -1,17 +1,20 @@
 -- `dc::luma_dc_levels` meets its contract: each verdict by its law, and the levels by value between two copies. Assumes nothing.
 use borrow.Author.Needs.{needs}
 use mathlib.Core.Path.{sym, ap, _∙_}
+use mathlib.Core.List.{[], _∷_}
 use Prim.Native.Nat.{ℕ, _≤_}
 use native.Mathlib.Omega.{arith}
 use lib.ListN.{length}
-use Rattle.lists.specs.Chain.{stop}
-use Rattle.lists.proofs.Chain.{written-passed, written-refused}
+use Rattle.lists.specs.Chain.{scanTest, stop}
+use Rattle.lists.proofs.Chain.{chain-refused, scan-none, scan-found, written-passed, written-refused}
 use Rattle.refusal.specs.declared.Refusal.the-variants.{Residual}
 use Rattle.refusal.proofs.Same.{says}
 use Rattle.transform.proofs.Sides.{kept}
+use Rattle.residual.specs.Entry.{lentTests}
+use Rattle.residual.proofs.Entry.{Accepted, accepted-legal, accepted-refused}
 use Rattle.dc.specs.Dc.{lumaLevels}
 use Rattle.dc.specs.Entry.{firstLarge}
-use Rattle.dc.proofs.Entry.{Accepted, accepted-legal, accepted-refused, dc-levels-refused, dc-levels-large, dc-levels-fine, none-large, all-small}
+use Rattle.dc.proofs.Entry.{none-large, all-small}
 use Rattle.dc.proofs.luma_dc_levels.Statement.{statement}
 use Rattle.dc.proofs.luma_dc_levels.Tie as tie
 
@@ -45,7 +48,7 @@ returns c =
     let f = c .before in
     let s = start f in
     let is = f .first-outside .ensures in
-    let e = dc-levels-large 16 (s .args .qp) (s .args .dc .now) (s .args .levels .now) (told f .passed) (omega (arith, is, c .if1 .taken)) in
+    let e = scan-found (lentTests 16 (s .args .qp) (length (s .args .dc .now)) (length (s .args .levels .now))) (told f .passed) 16 (firstLarge (s .args .dc .now)) Residual [] (omega (arith, is, c .if1 .taken)) in
     record { says = says (ap (λ (k : ℕ). stop (Residual k)) is ∙ sym e); wrote = written-refused (lumaLevels (s .args .qp) (s .args .dc .now)) e }
 
 slice-aggregate-copy : tie.Need-slice-aggregate-copy
@@ -74,7 +77,7 @@ returns-2 c =
     let a = c .before .before .before in
     let s = a .before in
     let e =
-    dc-levels-refused 16 (s .args .qp) (s .args .dc .now) (s .args .levels .now) _
+    chain-refused (lentTests 16 (s .args .qp) (length (s .args .dc .now)) (length (s .args .levels .now))) (scanTest 16 (firstLarge (s .args .dc .now)) Residual ∷ []) _
     (accepted-refused 16 (s .args .qp) (length (s .args .dc .now)) (length (s .args .levels .now)) (a .accepted .ensures) (c .before .refusal .given .1)) in
     record { says = says (sym e); wrote = written-refused (lumaLevels (s .args .qp) (s .args .dc .now)) e }
 
@@ -89,7 +92,7 @@ returns-3 c =
     let f = w .before .before in
     let s = start f in
     let e =
-    dc-levels-fine 16 (s .args .qp) (s .args .dc .now) (s .args .levels .now) (told f .passed)
+    scan-none (lentTests 16 (s .args .qp) (length (s .args .dc .now)) (length (s .args .levels .now))) (told f .passed) 16 (firstLarge (s .args .dc .now)) Residual []
     (none-large 16 (s .args .dc .now) (told f .long) (scanned (w .before))) in
     let made = c .before .copy2 .ensures ∙ l .luma-levels .ensures ∙ (λ i. lumaLevels (told f .number i) (k .copy .ensures i)) in
     record { says = says (sym e); wrote = written-passed (s .args .levels .now) e made }

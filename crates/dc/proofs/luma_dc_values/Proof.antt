@@ -1,23 +1,22 @@
 -- `dc::luma_dc_values` meets its contract: each verdict by its law, and the values by value between two copies. Assumes nothing.
 use borrow.Author.Needs.{needs}
-use mathlib.Core.Path.{_≡_, sym, ap, _∙_}
+use mathlib.Core.Path.{_≡_, refl, sym, ap, _∙_}
 use mathlib.Core.List.{[], _∷_}
 use Prim.Native.Nat.{ℕ}
 use native.Mathlib.Omega.{arith}
 use lib.IntN.{pos, negsuc}
 use lib.ListN.{length}
-use Rattle.lists.specs.Chain.{stop}
-use Rattle.lists.proofs.Chain.{chain-passed, chain-refused, written-passed, written-refused}
+use Rattle.lists.specs.Chain.{scanTest, stop}
+use Rattle.lists.proofs.Chain.{chain-refused, scan-none, scan-found, written-passed, written-refused}
+use Rattle.whole.proofs.Range.{at-end}
 use Rattle.refusal.specs.declared.Refusal.the-variants.{Level, Range}
 use Rattle.refusal.proofs.Same.{says}
 use Rattle.transform.proofs.Sides.{kept}
-use Rattle.residual.specs.Entry.{firstWide, rangeTest}
+use Rattle.residual.specs.Entry.{firstWide, lentTests, rangeTest}
 use Rattle.residual.specs.Order.{inZigzag}
-use Rattle.residual.proofs.Entry.{wide-each}
+use Rattle.residual.proofs.Entry.{wide-each, Accepted, accepted-legal, accepted-refused}
 use Rattle.residual.proofs.Order.{length-zigzag}
 use Rattle.dc.specs.Dc.{lumaValues}
-use Rattle.dc.specs.Entry.{levelTest, lentTests}
-use Rattle.dc.proofs.Entry.{Accepted, accepted-legal, accepted-refused, place-found, place-none, at-end}
 use Rattle.dc.proofs.luma_dc_values.Statement.{statement}
 use Rattle.dc.proofs.luma_dc_values.Tie as tie
 
@@ -61,8 +60,7 @@ returns c =
     let values = lumaValues (s .args .qp) (s .args .levels .now) in
     let is = f .first-outside .ensures in
     let e =
-    chain-passed (lentTests 16 (s .args .qp) (length levels) (length (s .args .dc .now))) (levelTest 16 levels ∷ rangeTest values ∷ []) (told f .passed)
-    ∙ place-found 16 (firstWide levels) (Level (firstWide levels)) (rangeTest values ∷ []) (omega (arith, is, c .if1 .taken)) in
+    scan-found (lentTests 16 (s .args .qp) (length levels) (length (s .args .dc .now))) (told f .passed) 16 (firstWide levels) Level (rangeTest values ∷ []) (omega (arith, is, c .if1 .taken)) in
     record { says = says (ap (λ (k : ℕ). stop (Level k)) is ∙ sym e); wrote = written-refused values e }
 
 slice-aggregate-copy : tie.Need-slice-aggregate-copy
@@ -96,9 +94,8 @@ returns-2 c =
     let levels = s .args .levels .now in
     let values = lumaValues (s .args .qp) (s .args .levels .now) in
     let e =
-    chain-passed (lentTests 16 (s .args .qp) (length levels) (length (s .args .dc .now))) (levelTest 16 levels ∷ rangeTest values ∷ []) (told f .passed)
-    ∙ place-none 16 (firstWide levels) (Level (firstWide levels)) (rangeTest values ∷ []) (none (w .before))
-    ∙ place-found 16 (firstWide (inZigzag values)) (Range (firstWide (inZigzag values))) [] (omega (arith, found g, c .if2 .taken)) in
+    scan-none (lentTests 16 (s .args .qp) (length levels) (length (s .args .dc .now))) (told f .passed) 16 (firstWide levels) Level (rangeTest values ∷ []) (none (w .before))
+    ∙ scan-found [] refl 16 (firstWide (inZigzag values)) Range [] (omega (arith, found g, c .if2 .taken)) in
     record { says = says (ap (λ (k : ℕ). stop (Range k)) (found g) ∙ sym e); wrote = written-refused values e }
 
 slice-aggregate-copy-2 : tie.Need-slice-aggregate-copy-2
@@ -118,7 +115,7 @@ returns-3 c =
     let levels = s .args .levels .now in
     let values = lumaValues (s .args .qp) (s .args .levels .now) in
     let e =
-    chain-refused (lentTests 16 (s .args .qp) (length levels) (length (s .args .dc .now))) (levelTest 16 levels ∷ rangeTest values ∷ []) _
+    chain-refused (lentTests 16 (s .args .qp) (length levels) (length (s .args .dc .now))) (scanTest 16 (firstWide levels) Level ∷ rangeTest values ∷ []) _
     (accepted-refused 16 (s .args .qp) (length levels) (length (s .args .dc .now)) (a .accepted .ensures) (c .before .refusal .given .1)) in
     record { says = says (sym e); wrote = written-refused values e }
 
@@ -136,9 +133,8 @@ returns-4 c =
     let values = lumaValues (s .args .qp) (s .args .levels .now) in
     let end = at-end (negsuc 32767) (pos 32767) (inZigzag values) 16 (length-zigzag values) (omega (arith, found g, o .if2 .left)) in
     let e =
-    chain-passed (lentTests 16 (s .args .qp) (length levels) (length (s .args .dc .now))) (levelTest 16 levels ∷ rangeTest values ∷ []) (told f .passed)
-    ∙ place-none 16 (firstWide levels) (Level (firstWide levels)) (rangeTest values ∷ []) (none (w .before))
-    ∙ place-none 16 (firstWide (inZigzag values)) (Range (firstWide (inZigzag values))) [] end in
+    scan-none (lentTests 16 (s .args .qp) (length levels) (length (s .args .dc .now))) (told f .passed) 16 (firstWide levels) Level (rangeTest values ∷ []) (none (w .before))
+    ∙ scan-none [] refl 16 (firstWide (inZigzag values)) Range [] end in
     record { says = says (sym e); wrote = written-passed (s .args .dc .now) e (c .before .copy2 .ensures ∙ made (g .before .before .before)) }
 
 pub luma-dc-values-spec : {M : Type 1} → statement M

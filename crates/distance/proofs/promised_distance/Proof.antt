@@ -1,10 +1,9 @@
 -- `distance::promised_distance` meets its contract: the quantizer's test, then the spread at its period. Assumes nothing.
 use borrow.Author.Needs.{needs}
-use mathlib.Core.Path.{_≡_, sym, ap, _∙_}
+use mathlib.Core.Path.{_≡_, sym, _∙_}
 use Prim.Native.Nat.{_≤_}
 use native.Mathlib.Omega.{arith}
-use Rattle.lists.specs.Chain.{Verdict, written}
-use Rattle.refusal.specs.declared.Refusal.{Refusal}
+use Rattle.lists.proofs.Chain.{written-passed, written-refused}
 use Rattle.refusal.proofs.Same.{says}
 use Rattle.quantizer.specs.Range.{highest}
 use Rattle.quantizer.proofs.Range as range
@@ -14,9 +13,9 @@ use Rattle.distance.proofs.promised_distance.Tie as tie
 
 returns : tie.Need-returns
 returns c =
-    let n = c .before .before in
-    let e = range.high (n .before .args .qp) (range.built-refused (n .before .args .qp) (n .new .ensures) (c .enum-told .given .1)) in
-    record { says = says (simp e); value = simp e }
+    let n = c .before .before .before in
+    let e = range.built-stops (n .before .args .qp) (n .new .ensures) (c .before .refusal .given .1) in
+    record { says = says (sym e); value = written-refused (samplesOff (n .before .args .qp)) e }
 
 -- the quantizer in hand is that of the number, which is legal
 legal : (c : tie.After-spread) → (c .before .before .quantizer .given .0 .0 .qp ≡ c .before .before .before .before .before .args .qp) × (c .before .before .before .before .before .args .qp ≤ highest)
@@ -33,7 +32,7 @@ returns-2 c =
     let is : c .whole-samples .result ≡ samplesOff qp =
     c .whole-samples .ensures
     ∙ rw (s .spread .ensures .0, c .before .period .ensures, legal s .0) in
-    record { says = says (sym (range.legal qp (legal s .1))); value = is ∙ ap (λ (v : Verdict Refusal). written v (samplesOff qp) 0) (sym e) }
+    record { says = says (sym e); value = written-passed 0 e is }
 
 pub promised-distance-spec : {M : Type 1} → statement M
 promised-distance-spec =
@@ -42,8 +41,8 @@ promised-distance-spec =
     (λ c κs. search needs)
     (λ c. search needs)
     (λ c. search needs)
-    returns
     (λ c κs. search needs)
     (λ c κs. search needs)
     whole-samples-requires
+    returns
     returns-2)

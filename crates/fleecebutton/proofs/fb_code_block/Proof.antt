@@ -7,7 +7,7 @@ use Rattle.fleecebutton.proofs.fb_code_block.Tie as tie
 returns : tie.Need-returns
 returns c =
     let p = c .before .before .before .before .code-block .ensures in
-    record { word = choice-sent _ _ (p .says) (p .best) (c .of-coded .ensures); levels = p .levels; rebuilt = p .rebuilt }
+    record { word = choice-sent _ _ (p .says) (p .best) (c .of-chosen .ensures); levels = p .levels; rebuilt = p .rebuilt }
 
 pub fb-code-block-spec : {M : Type 1} → statement M
 fb-code-block-spec =

@@ -1,4 +1,4 @@
--- `residual::rebuild` meets its contract: the first tests are `accepted`, the last one and the samples are `finished`. Assumes nothing.
+-- `residual::rebuild` meets its contract: the first tests are `levels_accepted`, the last one and the samples are `finished`. Assumes nothing.
 use mathlib.Core.Path.{sym, ap, subst, _∙_}
 use mathlib.Core.List.{List, [], _∷_}
 use lib.IntN.{ℤ}
@@ -11,7 +11,7 @@ use Rattle.refusal.proofs.Same.{says}
 use Rattle.residual.specs.Entry.{levelTests, rangeTest, Finishes}
 use Rattle.residual.specs.Rescale.{rescaled}
 use Rattle.residual.specs.Rebuild.{rescaledOf, rebuiltSamples}
-use Rattle.residual.proofs.Entry.{Accepted, accepted-legal, accepted-refused}
+use Rattle.residual.proofs.Entry.{AcceptedLevels, levels-legal, levels-not-legal}
 use Rattle.residual.proofs.Order.{places-each}
 use borrow.Author.Needs.{needs}
 use Rattle.residual.proofs.rebuild.Statement.{statement}
@@ -19,13 +19,13 @@ use Rattle.residual.proofs.rebuild.Tie as tie
 
 -- what the first tests have shown
 learnt : (c : tie.After-quantizer)
-    → Accepted 16 0 (c .before .before .before .before .before .args .qp) (length (c .before .before .before .before .before .args .prediction .now)) (c .before .before .before .before .before .args .levels .now) (length (c .before .before .before .before .before .args .out .now)) (c .quantizer .given .0 .0)
+    → AcceptedLevels 16 0 (c .before .before .before .before .before .args .qp) (length (c .before .before .before .before .before .args .prediction .now)) (c .before .before .before .before .before .args .levels .now) (length (c .before .before .before .before .before .args .out .now)) (c .quantizer .given .0 .0)
 learnt c =
     let a = c .before .before .before .before .before .args in
-    accepted-legal 16 0 (a .qp) (length (a .prediction .now)) (a .levels .now) (length (a .out .now)) (c .before .before .accepted .ensures) (c .quantizer .given .1)
+    levels-legal 16 0 (a .qp) (length (a .prediction .now)) (a .levels .now) (length (a .out .now)) (c .before .before .levels-accepted .ensures) (c .quantizer .given .1)
 
-accepted-requires : tie.Need-accepted-requires
-accepted-requires c κs = search needs
+levels-accepted-requires : tie.Need-levels-accepted-requires
+levels-accepted-requires c κs = search needs
 
 enum-known-refusal : tie.Need-enum-known-refusal
 enum-known-refusal c = search needs
@@ -49,7 +49,7 @@ returns : tie.Need-returns
 returns c =
     let r = c .before in
     let a = r .before .before .before .before .before .args in
-    let v = chain-refused (levelTests 16 0 (a .qp) (length (a .prediction .now)) (a .levels .now) (length (a .out .now))) (rangeTest (rescaledOf (a .qp) (a .levels .now)) ∷ []) _ (accepted-refused 16 0 (a .qp) (length (a .prediction .now)) (a .levels .now) (length (a .out .now)) (r .before .before .accepted .ensures) (r .refusal .given .1)) in
+    let v = chain-refused (levelTests 16 0 (a .qp) (length (a .prediction .now)) (a .levels .now) (length (a .out .now))) (rangeTest (rescaledOf (a .qp) (a .levels .now)) ∷ []) _ (levels-not-legal 16 0 (a .qp) (length (a .prediction .now)) (a .levels .now) (length (a .out .now)) (r .before .before .levels-accepted .ensures) (r .refusal .given .1)) in
     record { says = says (sym v); wrote = ap (λ (w : Verdict Refusal). written w (rebuiltSamples (a .prediction .now) (rescaledOf (a .qp) (a .levels .now))) (a .out .now)) (sym v) }
 
 same-length : tie.Need-same-length
@@ -72,7 +72,7 @@ pub rebuild-spec : {M : Type 1} → statement M
 rebuild-spec =
     tie.close
     (tie.spec
-    accepted-requires
+    levels-accepted-requires
     enum-known-refusal
     enum-known-quantizer
     placed-requires

@@ -1,4 +1,4 @@
--- `residual::rebuild_with_dc` meets its contract: the first tests are `accepted`, the last one and the samples are `finished`. Assumes nothing.
+-- `residual::rebuild_with_dc` meets its contract: the first tests are `levels_accepted`, the last one and the samples are `finished`. Assumes nothing.
 use mathlib.Core.Path.{_≡_, sym, ap, subst, _∙_}
 use mathlib.Core.List.{List, [], _∷_, _++_, append-nil}
 use Prim.Native.Nat.{zero-le}
@@ -15,7 +15,7 @@ use Rattle.residual.specs.Entry.{levelTests, rangeTest, Finishes}
 use Rattle.residual.specs.Order.{inPlaces}
 use Rattle.residual.specs.Rescale.{rescaled}
 use Rattle.residual.specs.Rebuild.{rescaledWithDc, rebuiltSamples}
-use Rattle.residual.proofs.Entry.{Accepted, accepted-legal, accepted-refused}
+use Rattle.residual.proofs.Entry.{AcceptedLevels, levels-legal, levels-not-legal}
 use Rattle.residual.proofs.Order.{places-each}
 use borrow.Author.Needs.{needs}
 use Rattle.residual.proofs.rebuild_with_dc.Statement.{statement}
@@ -23,13 +23,13 @@ use Rattle.residual.proofs.rebuild_with_dc.Tie as tie
 
 -- what the first tests have shown
 learnt : (c : tie.After-quantizer)
-    → Accepted 15 1 (c .before .before .before .before .before .args .qp) (length (c .before .before .before .before .before .args .prediction .now)) (c .before .before .before .before .before .args .ac .now) (length (c .before .before .before .before .before .args .out .now)) (c .quantizer .given .0 .0)
+    → AcceptedLevels 15 1 (c .before .before .before .before .before .args .qp) (length (c .before .before .before .before .before .args .prediction .now)) (c .before .before .before .before .before .args .ac .now) (length (c .before .before .before .before .before .args .out .now)) (c .quantizer .given .0 .0)
 learnt c =
     let a = c .before .before .before .before .before .args in
-    accepted-legal 15 1 (a .qp) (length (a .prediction .now)) (a .ac .now) (length (a .out .now)) (c .before .before .accepted .ensures) (c .quantizer .given .1)
+    levels-legal 15 1 (a .qp) (length (a .prediction .now)) (a .ac .now) (length (a .out .now)) (c .before .before .levels-accepted .ensures) (c .quantizer .given .1)
 
-accepted-requires : tie.Need-accepted-requires
-accepted-requires c κs = search needs
+levels-accepted-requires : tie.Need-levels-accepted-requires
+levels-accepted-requires c κs = search needs
 
 enum-known-refusal : tie.Need-enum-known-refusal
 enum-known-refusal c = search needs
@@ -73,7 +73,7 @@ returns : tie.Need-returns
 returns c =
     let r = c .before in
     let a = r .before .before .before .before .before .args in
-    let v = chain-refused (levelTests 15 1 (a .qp) (length (a .prediction .now)) (a .ac .now) (length (a .out .now))) (rangeTest (rescaledWithDc (a .qp) (a .dc) (a .ac .now)) ∷ []) _ (accepted-refused 15 1 (a .qp) (length (a .prediction .now)) (a .ac .now) (length (a .out .now)) (r .before .before .accepted .ensures) (r .refusal .given .1)) in
+    let v = chain-refused (levelTests 15 1 (a .qp) (length (a .prediction .now)) (a .ac .now) (length (a .out .now))) (rangeTest (rescaledWithDc (a .qp) (a .dc) (a .ac .now)) ∷ []) _ (levels-not-legal 15 1 (a .qp) (length (a .prediction .now)) (a .ac .now) (length (a .out .now)) (r .before .before .levels-accepted .ensures) (r .refusal .given .1)) in
     record { says = says (sym v); wrote = ap (λ (w : Verdict Refusal). written w (rebuiltSamples (a .prediction .now) (rescaledWithDc (a .qp) (a .dc) (a .ac .now))) (a .out .now)) (sym v) }
 
 same-length : tie.Need-same-length
@@ -97,7 +97,7 @@ pub rebuild-with-dc-spec : {M : Type 1} → statement M
 rebuild-with-dc-spec =
     tie.close
     (tie.spec
-    accepted-requires
+    levels-accepted-requires
     enum-known-refusal
     enum-known-quantizer
     sub-copy

@@ -2,8 +2,8 @@
 use mathlib.Core.Path.{_≡_, sym, ap, _∙_}
 use Prim.Native.Nat.{ℕ}
 use borrow.Author.Needs.{needs}
-use Rattle.predict.specs.Entry.{saidChosen, bestIn}
-use Rattle.predict.specs.declared.Chosen.{Chosen}
+use Rattle.intra4.specs.Entry.{saidChosen, bestIn}
+use Rattle.intra4.specs.declared.Chosen.{Chosen}
 use Rattle.fleecebutton.specs.Word.{wordOf, choiceValue}
 use Rattle.fleecebutton.proofs.word.of_chosen.Statement.{statement}
 use Rattle.fleecebutton.proofs.word.of_chosen.Tie as tie

@@ -2,14 +2,14 @@
 use mathlib.Core.Path.{_≡_, sym, ap, _∙_}
 use Prim.Native.Nat.{ℕ}
 use borrow.Author.Needs.{needs}
-use Rattle.distance.specs.Entry.{said, valueOf}
+use Rattle.distance.specs.Entry.{saidPromised, valueOf}
 use Rattle.distance.specs.declared.Promised.{Promised}
 use Rattle.fleecebutton.specs.Word.{wordOf}
 use Rattle.fleecebutton.proofs.word.of_promised.Statement.{statement}
 use Rattle.fleecebutton.proofs.word.of_promised.Tie as tie
 
-of-case : {a b : Promised} {w : ℕ} → a ≡ b → w ≡ wordOf (said b) (valueOf b) → w ≡ wordOf (said a) (valueOf a)
-of-case e h = h ∙ ap (λ (a : Promised). wordOf (said a) (valueOf a)) (sym e)
+of-case : {a b : Promised} {w : ℕ} → a ≡ b → w ≡ wordOf (saidPromised b) (valueOf b) → w ≡ wordOf (saidPromised a) (valueOf a)
+of-case e h = h ∙ ap (λ (a : Promised). wordOf (saidPromised a) (valueOf a)) (sym e)
 
 returns : tie.Need-returns
 returns c = of-case (c .before .before .promised .given .1) (c .of-success .ensures)

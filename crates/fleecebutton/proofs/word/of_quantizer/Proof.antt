@@ -2,14 +2,14 @@
 use mathlib.Core.Path.{_≡_, sym, ap, _∙_}
 use Prim.Native.Nat.{ℕ, _*_}
 use borrow.Author.Needs.{needs}
-use Rattle.quantizer.specs.Range.{said, qpOf}
+use Rattle.quantizer.specs.Range.{saidBuilt, qpOf}
 use Rattle.quantizer.specs.declared.Built.{Built}
 use Rattle.fleecebutton.specs.Word.{wordOf}
 use Rattle.fleecebutton.proofs.word.of_quantizer.Statement.{statement}
 use Rattle.fleecebutton.proofs.word.of_quantizer.Tie as tie
 
-of-case : {a b : Built} {w : ℕ} → a ≡ b → w ≡ wordOf (said b) (qpOf b) → w ≡ wordOf (said a) (qpOf a)
-of-case e h = h ∙ ap (λ (a : Built). wordOf (said a) (qpOf a)) (sym e)
+of-case : {a b : Built} {w : ℕ} → a ≡ b → w ≡ wordOf (saidBuilt b) (qpOf b) → w ≡ wordOf (saidBuilt a) (qpOf a)
+of-case e h = h ∙ ap (λ (a : Built). wordOf (saidBuilt a) (qpOf a)) (sym e)
 
 returns : tie.Need-returns
 returns c =

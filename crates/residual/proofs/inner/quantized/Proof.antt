@@ -1,11 +1,11 @@
 -- `residual::inner::quantized` meets its contract: forward, then a level for each place. Assumes nothing.
 use Rattle.transform.specs.Forward.{forward}
-use mathlib.Core.Path.{sym, ap, subst, _∙_}
+use mathlib.Core.Path.{_≡_, sym, ap, subst, _∙_}
 use mathlib.Core.List.{List}
-use Prim.Native.Nat.{ℕ, _+_, _≤_}
+use Prim.Native.Nat.{ℕ, _+_, _≤_, _^_}
 use native.Mathlib.Omega.{arith}
 use lib.IntN.{pos}
-use lib.ListN.{getD}
+use lib.ListN.{length, getD}
 use Rattle.lists.specs.Tab.{tab}
 use Rattle.whole.specs.Bounds.{Each}
 use Rattle.whole.proofs.Lists.{each-less}
@@ -16,53 +16,48 @@ use borrow.Author.Needs.{needs}
 use Rattle.residual.proofs.inner.quantized.Statement.{statement}
 use Rattle.residual.proofs.inner.quantized.Tie as tie
 
-forward-block-requires : tie.Need-forward-block-requires
-forward-block-requires c κs = each-less 255 32768 (c .args .residual) (c .pre .1) tt
+-- sixteen coefficients
+sixteen : (c : tie.After-forward-block) → length (c .forward-block .result) ≡ 16
+sixteen c = search needs
 
-period-requires : tie.Need-period-requires
-period-requires c κs = search needs
-
-multipliers-requires : tie.Need-multipliers-requires
-multipliers-requires c κs = search needs
-
-third-requires : tie.Need-third-requires
-third-requires c κs = search needs
-
-cast-levels-of : tie.Need-cast-levels-of
-cast-levels-of c = search needs
-
-add-levels-of : tie.Need-add-levels-of
-add-levels-of c = search needs
-
-levels-of-requires : tie.Need-levels-of-requires
-levels-of-requires c κs =
-    let s = c .before .before .before .before in
-    let qp = s .args .quantizer .qp in (
-      subst (Each 65280) (sym (c .before .before .before .forward-block .ensures)) (each-less 9180 65280 (forward (s .args .residual)) (forward-each (s .args .residual) (s .pre .1)) tt),
-      (λ k h. subst (λ (l : List ℕ). getD l k 0 ≤ 13107) (sym (c .before .multipliers .ensures)) (multipliers-small qp k h)),
-      rw (c .third .ensures) (omega (arith, third-small (c .before .before .period .result) (omega arith))),
+level-all-requires : tie.Need-level-all-requires
+level-all-requires c κs =
+    let p = c .before .before .before in
+    let m = p .before in
+    let b = m .before in
+    let s = b .before in
+    let qp = s .args .quantizer .qp in
+    let many : length (m .multipliers .result) ≡ 16 = search needs in (
+      subst (Each 65280) (sym (b .forward-block .ensures)) (each-less 9180 65280 (forward (s .args .residual)) (forward-each (s .args .residual) (s .pre .1)) tt),
+      many ∙ sym (sixteen b),
+      (λ k h. subst (λ (l : List ℕ). getD l k 0 ≤ 13107) (sym (m .multipliers .ensures)) (multipliers-small qp k (omega (arith, h, sixteen b)))),
+      rw (c .third .ensures) (omega (arith, third-small (p .period .result) (omega arith))),
       omega arith,
     )
 
 returns : tie.Need-returns
 returns c =
-    let s = c .before .before .before .before .before in
-    let qp = s .args .quantizer .qp in
-    let period = c .before .before .before .period .ensures in
-    c .levels-of .ensures
-    ∙ (λ i. tab 16 (λ k. levelBy (getD (c .before .before .multipliers .ensures i) k 0) ((c .before .third .ensures ∙ ap fOf period) i) (15 + period i)
-    (getD (c .before .before .before .before .forward-block .ensures i) k (pos 0))))
-    ∙ quantized-by qp (s .args .residual)
+    let t = c .before .before in
+    let p = t .before .before .before in
+    let m = p .before in
+    let b = m .before in
+    let s = b .before in
+    let period = p .period .ensures in
+    c .before .level-all .ensures
+    ∙ (λ i. tab (sixteen b i) (λ k. levelBy (getD (m .multipliers .ensures i) k 0) ((t .third .ensures ∙ ap fOf period) i) (2 ^ (15 + period i)) (getD (b .forward-block .ensures i) k (pos 0))))
+    ∙ quantized-by (s .args .quantizer .qp) (s .args .residual)
 
 pub quantized-spec : {M : Type 1} → statement M
 quantized-spec =
     tie.close
     (tie.spec
-    forward-block-requires
-    period-requires
-    multipliers-requires
-    third-requires
-    cast-levels-of
-    add-levels-of
-    levels-of-requires
+    (λ c κs. each-less 255 32768 (c .args .residual) (c .pre .1) tt)
+    (λ c κs. search needs)
+    (λ c κs. search needs)
+    (λ c. search needs)
+    (λ c. search needs)
+    (λ c κs. search needs)
+    (λ c. search needs)
+    (λ c. search needs)
+    level-all-requires
     returns)

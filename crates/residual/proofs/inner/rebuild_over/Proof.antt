@@ -20,7 +20,7 @@ unfolding rebuiltSamples
 returns c =
     let a = c .before .before in
     let i = a .before in
-    a .add .ensures ∙ ap (added (i .before .before .before .args .samples .now)) (i .inverse-block .ensures)
+    a .add .ensures ∙ ap (added 16 (i .before .before .before .args .samples .now)) (i .inverse-block .ensures)
 
 pub rebuild-over-spec : {M : Type 1} → statement M
 rebuild-over-spec = tie.close (tie.spec (λ c κs. search needs) add-requires (λ c. search needs) returns)

@@ -1,0 +1,101 @@
+-- What the mask leaves of the neighbours, over the rows that the code reads.
+--     thirteen         a list of thirteen is its elements
+--     predicted-is     a permitted mode's samples are those of the rows; another mode has none
+--     none-exactly-if  a mode has no prediction exactly if the flags do not permit it
+--     mode-below-9     what is permitted has a number below 9
+--     filled-is        the same for what the code has filled
+-- Assumes nothing.
+use mathlib.Core.Path.{_≡_, refl, sym, ap, ap₂, subst, _∙_}
+use mathlib.Core.Bool.{Bool, true, false, cond, _&&_, false≢true}
+use mathlib.Core.List.{List, [], _∷_}
+use mathlib.Core.Logic.{_↔_}
+use Prim.Native.Nat.{ℕ, zero, suc, _<_}
+use lib.Dec.{lit≤}
+use lib.IntN.{ℤ}
+use lib.ListN.{length, getD}
+use Rattle.lists.specs.Tab.{grid, tab}
+use Rattle.lists.proofs.Tab.{tab-of}
+use Rattle.intra4.specs.Samples.{sideIf, bitOf, mask}
+use Rattle.intra4.specs.Rules.{samples, none, samplesOf, one, three, predicted, permitted}
+use Rattle.intra4.specs.Rules.{vertical, horizontal, downLeft, downRight, verticalRight, horizontalDown, verticalLeft, horizontalUp}
+use Rattle.intra4.specs.Code.{pastCorner, withCorner, topRow, leftRow, filled}
+
+one-is : (b : Bool) (m : ℕ) (l : List ℕ) (rule : (ℤ → ℕ) → ℕ → ℕ → ℕ) → one (sideIf b l) rule ≡ cond b (samples (grid 4 (rule (pastCorner (m ∷ l))))) none
+one-is true m l rule = refl
+one-is false m l rule = refl
+
+three-is : (a b c : Bool) (m : ℕ) (la ll : List ℕ) (rule : (T S : ℤ → ℕ) → ℕ → ℕ → ℕ)
+    → three (record { above = sideIf a la; left = sideIf b ll; corner = sideIf c (m ∷ []) }) rule
+    ≡ cond (a && (b && c)) (samples (grid 4 (rule (withCorner (m ∷ la)) (withCorner (m ∷ ll))))) none
+three-is true true true m la ll rule = refl
+three-is true true false m la ll rule = refl
+three-is true false c m la ll rule = refl
+three-is false b c m la ll rule = refl
+
+-- over any rows
+over-rows : (f m M : ℕ) (la ll : List ℕ)
+    → predicted (record { above = sideIf (bitOf f 0) la; left = sideIf (bitOf f 1) ll; corner = sideIf (bitOf f 2) (M ∷ []) }) m
+    ≡ cond (permitted f m) (samples (filled (M ∷ la) (M ∷ ll) f m)) none
+unfolding predicted permitted filled
+over-rows f zero M la ll = one-is (bitOf f 0) M la vertical
+over-rows f (suc zero) M la ll = one-is (bitOf f 1) M ll horizontal
+over-rows f (suc (suc zero)) M la ll = refl
+over-rows f (suc (suc (suc zero))) M la ll = one-is (bitOf f 0) M la downLeft
+over-rows f (suc (suc (suc (suc zero)))) M la ll = three-is (bitOf f 0) (bitOf f 1) (bitOf f 2) M la ll downRight
+over-rows f (suc (suc (suc (suc (suc zero))))) M la ll = three-is (bitOf f 0) (bitOf f 1) (bitOf f 2) M la ll verticalRight
+over-rows f (suc (suc (suc (suc (suc (suc zero)))))) M la ll = three-is (bitOf f 0) (bitOf f 1) (bitOf f 2) M la ll horizontalDown
+over-rows f (suc (suc (suc (suc (suc (suc (suc zero))))))) M la ll = one-is (bitOf f 0) M la verticalLeft
+over-rows f (suc (suc (suc (suc (suc (suc (suc (suc zero)))))))) M la ll = one-is (bitOf f 1) M ll horizontalUp
+over-rows f (suc (suc (suc (suc (suc (suc (suc (suc (suc m))))))))) M la ll = refl
+
+module _ (f m M A B C D E F G H I J K L : ℕ) where
+  -- b is bit 3, by which E to H stand or each is D
+  by-bit-3 : (b : Bool)
+      → predicted (record {
+        above = sideIf (bitOf f 0) (A ∷ B ∷ C ∷ D ∷ cond b (E ∷ F ∷ G ∷ H ∷ []) (D ∷ D ∷ D ∷ D ∷ []));
+        left = sideIf (bitOf f 1) (I ∷ J ∷ K ∷ L ∷ []);
+        corner = sideIf (bitOf f 2) (M ∷ []);
+      }) m
+      ≡ cond (permitted f m)
+      (samples (filled (M ∷ A ∷ B ∷ C ∷ D ∷ cond b E D ∷ cond b F D ∷ cond b G D ∷ cond b H D ∷ []) (M ∷ I ∷ J ∷ K ∷ L ∷ []) f m))
+      none
+  by-bit-3 true = over-rows f m M (A ∷ B ∷ C ∷ D ∷ E ∷ F ∷ G ∷ H ∷ []) (I ∷ J ∷ K ∷ L ∷ [])
+  by-bit-3 false = over-rows f m M (A ∷ B ∷ C ∷ D ∷ D ∷ D ∷ D ∷ D ∷ []) (I ∷ J ∷ K ∷ L ∷ [])
+
+-- a list of thirteen is its elements
+pub thirteen : (n : List ℕ) → length n ≡ 13 → tab 13 (λ k. getD n k 0) ≡ n
+thirteen n e = tab-of 13 (λ k. getD n k 0) n 0 e (λ k l. refl)
+
+module _ (n : List ℕ) (f m : ℕ) (e : length n ≡ 13) where
+  pub predicted-is : predicted (mask n f) m ≡ cond (permitted f m) (samples (filled (topRow n f) (leftRow n) f m)) none
+  unfolding tab
+  predicted-is =
+      subst (λ (l : List ℕ). predicted (mask l f) m ≡ cond (permitted f m) (samples (filled (topRow l f) (leftRow l) f m)) none) (thirteen n e)
+      (by-bit-3 f m (getD n 0 0) (getD n 1 0) (getD n 2 0) (getD n 3 0) (getD n 4 0) (getD n 5 0) (getD n 6 0) (getD n 7 0) (getD n 8 0)
+      (getD n 9 0) (getD n 10 0) (getD n 11 0) (getD n 12 0) (bitOf f 3))
+
+  pub none-exactly-if : (predicted (mask n f) m ≡ none) ↔ (permitted f m ≡ false)
+  none-exactly-if = (only (permitted f m) refl, λ q. predicted-is ∙ rw q)
+    where
+      only : (b : Bool) → permitted f m ≡ b → predicted (mask n f) m ≡ none → permitted f m ≡ false
+      only false q h = q
+      only true q h = let z : samples (filled (topRow n f) (leftRow n) f m) ≡ none = rw q at (sym predicted-is) ∙ h in cc
+
+  pub filled-is : {t s l : List ℕ} → permitted f m ≡ true → t ≡ topRow n f → s ≡ leftRow n → l ≡ filled t s f m → l ≡ samplesOf (predicted (mask n f) m)
+  filled-is {t} {s} {l} p a b c =
+      c
+      ∙ ap₂ (λ (t s : List ℕ). filled t s f m) a b
+      ∙ sym (ap samplesOf (predicted-is ∙ ap (λ (q : Bool). cond q (samples (filled (topRow n f) (leftRow n) f m)) none) p))
+
+pub mode-below-9 : (f m : ℕ) → permitted f m ≡ true → m < 9
+unfolding permitted
+mode-below-9 f zero e = lit≤ tt
+mode-below-9 f (suc zero) e = lit≤ tt
+mode-below-9 f (suc (suc zero)) e = lit≤ tt
+mode-below-9 f (suc (suc (suc zero))) e = lit≤ tt
+mode-below-9 f (suc (suc (suc (suc zero)))) e = lit≤ tt
+mode-below-9 f (suc (suc (suc (suc (suc zero))))) e = lit≤ tt
+mode-below-9 f (suc (suc (suc (suc (suc (suc zero)))))) e = lit≤ tt
+mode-below-9 f (suc (suc (suc (suc (suc (suc (suc zero))))))) e = lit≤ tt
+mode-below-9 f (suc (suc (suc (suc (suc (suc (suc (suc zero)))))))) e = lit≤ tt
+mode-below-9 f (suc (suc (suc (suc (suc (suc (suc (suc (suc m))))))))) e = absurd (false≢true e)

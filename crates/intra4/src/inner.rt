@@ -1,0 +1,79 @@
+// What the crates above call, without tests.
+ghost use mathlib.Core.Path.{_≡_};
+ghost use mathlib.Core.Bool.{true};
+ghost use lib.ListN.{length};
+ghost use Rattle.intra4.specs.Samples.{mask};
+ghost use Rattle.intra4.specs.Rules as paper;
+ghost use Rattle.intra4.specs.Entry.{Picks};
+ghost use Rattle.intra4.specs.Code.{withSamples};
+use crate::fills;
+use crate::samples;
+use crate::search;
+use choice::inner::Standing;
+
+// The chosen mode, its SAD and its sixteen samples.
+pub struct Choice {
+    pub mode: u8,
+    pub sad: u32,
+    pub prediction: [u8; 16],
+}
+
+// What the mode needs is present. A number above 8 is no mode.
+pub fn permitted(flags: u8, mode: u8) -> bool
+    ensures { λ r. ⌜ r ≡ paper.permitted flags mode ⌝ }
+{
+    match mode {
+        0 => samples::flag(flags, 0),
+        1 => samples::flag(flags, 1),
+        2 => true,
+        3 => samples::flag(flags, 0),
+        4 => samples::all(flags),
+        5 => samples::all(flags),
+        6 => samples::all(flags),
+        7 => samples::flag(flags, 0),
+        8 => samples::flag(flags, 1),
+        _ => false,
+    }
+}
+
+// The sixteen samples of a permitted mode.
+pub fn fill(neighbours: &[u8], flags: u8, mode: u8, out: &mut [u8])
+    requires { ⌜ (length (now neighbours) ≡ 13) × (paper.permitted flags mode ≡ true) × (length (now out) ≡ 16) ⌝ }
+    ensures { λ r. ⌜ now (out .exit) ≡ paper.samplesOf (paper.predicted (mask (now (neighbours .entry)) flags) mode) ⌝ }
+{
+    let rows = samples::resolve(neighbours, flags);
+    let top = rows.top;
+    let left = rows.left;
+    fills::put(top, left, flags, mode, out);
+}
+
+// The permitted mode with the least SAD, the lower number on a tie; its samples are written.
+pub(crate) fn pick(neighbours: &[u8], flags: u8, samples: &[u8], prediction: &mut [u8]) -> Standing
+    requires { ⌜ (length (now neighbours) ≡ 13) × (length (now samples) ≡ 16) × (length (now prediction) ≡ 16) ⌝ }
+    ensures { λ r. ⌜ Picks (mask (now (neighbours .entry)) flags) (now (samples .entry)) (withSamples r (now (prediction .exit))) ⌝ }
+{
+    let rows = samples::resolve(neighbours, flags);
+    let top = rows.top;
+    let left = rows.left;
+    let mut area = [0u8; 144];
+    fills::put_all(top, left, flags, &mut area);
+    let best = search::best(&area, flags, samples);
+    let at = 16 * (best.mode as usize);
+    let end = at + 16;
+    bytes::copy(&area[at..end], prediction);
+    best
+}
+
+// The same by value.
+pub fn chosen(neighbours: &[u8], flags: u8, samples: &[u8]) -> Choice
+    requires { ⌜ (length (now neighbours) ≡ 13) × (length (now samples) ≡ 16) ⌝ }
+    ensures { λ r. ⌜ Picks (mask (now (neighbours .entry)) flags) (now (samples .entry)) r ⌝ }
+{
+    let mut prediction = [0u8; 16];
+    let best = pick(neighbours, flags, samples, &mut prediction);
+    Choice {
+        mode: best.mode,
+        sad: best.cost,
+        prediction,
+    }
+}
