@@ -12,6 +12,8 @@ use Rattle.block.proofs.code_block.Kinds as code-block
 use Rattle.block.proofs.code_block.Reads as code-block-reads
 use Rattle.block.proofs.inner.coded.Kinds as coded
 use Rattle.block.proofs.inner.coded.Reads as coded-reads
+use Rattle.block.proofs.inner.lacking.Kinds as lacking
+use Rattle.block.proofs.inner.lacking.Reads as lacking-reads
 
 -- both outputs at exit
 pub code-block-unique : Unique 4 code-block.ps code-block.r code-block-reads.Learnt (List ℤ × List ℕ) (λ κs e. (now (e .1 .1 .1 .1 .0), now (e .1 .1 .1 .1 .1 .0)))
@@ -22,3 +24,6 @@ code-block-unique κs a x y e f p q =
 
 pub coded-unique : Unique 2 coded.ps coded.r coded-reads.Learnt (Unit {0}) (λ κs e. tt)
 coded-unique κs a x y e f p q = (same-block x y p q, refl)
+
+pub lacking-unique : Unique 1 lacking.ps lacking.r lacking-reads.Learnt (Unit {0}) (λ κs e. tt)
+lacking-unique κs a x y e f p q = (p .0 ∙ sym (q .0), refl)

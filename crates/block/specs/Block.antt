@@ -5,7 +5,8 @@ use lib.IntN.{ℤ, pos, _-ℤ_}
 use lib.ListN.{getD}
 use Rattle.lists.specs.Tab.{tab}
 use Rattle.intra4.specs.Samples.{Round}
-use Rattle.intra4.specs.Choice.{Best, nothing, at, chosen}
+use Rattle.intra4.specs.Choice.{chosen}
+pub use Rattle.intra4.specs.Choice.{modeOf}
 use Rattle.intra4.specs.Entry.{bestSamples}
 use Rattle.residual.specs.Levels.{levelsOf}
 use Rattle.residual.specs.Rebuild.{rescaledOf, rebuiltSamples}
@@ -14,11 +15,7 @@ use Rattle.residual.specs.Rebuild.{rescaledOf, rebuiltSamples}
 unfoldable pub residualOf : List ℕ → List ℕ → List ℤ
 residualOf samples prediction = tab 16 (λ place. pos (getD samples place 0) -ℤ pos (getD prediction place 0))
 
--- "Choice: the permitted mode with the least SAD": its number (a block always has one: mode 2 needs nothing)
-abbrev pub modeOf : Best → ℕ
-modeOf nothing = 0
-modeOf (at mode sad) = mode
-
+-- "Choice: the permitted mode with the least SAD": its number
 abbrev pub codedMode : Round → List ℕ → ℕ
 codedMode round samples = modeOf (chosen round samples)
 

@@ -25,7 +25,7 @@ fn difference(sample: u8, predicted: u8) -> i32
 }
 
 // What the prediction lacks.
-fn lacking(samples: &[u8], prediction: [u8; 16]) -> [i32; 16]
+pub fn lacking(samples: &[u8], prediction: [u8; 16]) -> [i32; 16]
     requires { ⌜ length (now samples) ≡ 16 ⌝ }
     ensures { λ r. ⌜ (r ≡ residualOf (now (samples .entry)) prediction) × (Each 255 r) ⌝ }
 {

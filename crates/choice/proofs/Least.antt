@@ -1,10 +1,11 @@
 -- The walk over the modes finds the least: a permitted mode, no permitted mode costs less, every lower one costs more.
---     best-is, one-least     over any number of modes and any costs; there is one such mode at most
+--     best-is, best-least    over any number of modes and any costs
+--     one-least              there is one such mode at most
 --     some-best              where a mode is permitted there is a best
 --     best-same              equal costs have the same best
 --     clash, same            a cost is one thing
 -- Assumes nothing.
-use mathlib.Core.Path.{_≡_, refl, ap}
+use mathlib.Core.Path.{_≡_, refl, ap, subst}
 use mathlib.Core.Bool.{Bool, true, false, cond}
 use Prim.Native.Nat.{ℕ, zero, suc, _<_, _≤_}
 use native.Mathlib.Nat.{not-suc-le-zero}
@@ -74,6 +75,9 @@ pub best-is : (n : ℕ) (cost : ℕ → Cost) → Good n cost (bestOf n cost)
 unfolding bestOf fold
 best-is zero cost = λ j l. absurd (not-suc-le-zero l)
 best-is (suc n) cost = step cost n (bestOf n cost) (cost n) refl (best-is n cost)
+
+pub best-least : (n : ℕ) (cost : ℕ → Cost) (m s : ℕ) → bestOf n cost ≡ at m s → Least n cost m s
+best-least n cost m s e = subst (Good n cost) e (best-is n cost)
 
 pub one-least : (n : ℕ) (cost : ℕ → Cost) (m s m′ s′ : ℕ) → Least n cost m s → Least n cost m′ s′ → (m ≡ m′) × (s ≡ s′)
 one-least n cost m s m′ s′ h k =

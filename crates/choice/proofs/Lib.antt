@@ -1,3 +1,4 @@
 pub mod Least
 pub mod Looking
+pub mod Sad
 pub mod Unique

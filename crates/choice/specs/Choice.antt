@@ -23,6 +23,15 @@ pub data Best : Type 0 where
   nothing : Best
   at : ℕ → ℕ → Best
 
+-- its mode and its cost (there always is one: DC needs nothing)
+abbrev pub modeOf : Best → ℕ
+modeOf nothing = 0
+modeOf (at mode cost) = mode
+
+abbrev pub sadOf : Best → ℕ
+sadOf nothing = 0
+sadOf (at mode cost) = cost
+
 -- after mode m has been looked at: only a strictly smaller cost takes the place
 abbrev pub better : ℕ → Cost → Best → Best
 better m no b = b

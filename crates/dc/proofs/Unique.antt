@@ -1,10 +1,14 @@
 -- The contracts of `dc` determine what its functions answer and leave in their outputs. Assumes nothing.
-use mathlib.Core.Path.{sym, _∙_}
+use mathlib.Core.Path.{refl, sym, _∙_}
 use mathlib.Core.List.{List}
 use denote.Ref.{now}
 use lib.IntN.{ℤ}
 use Rattle.unique.specs.Unique.{Unique}
 use Rattle.refusal.proofs.Same.{says-same, same-answer}
+use Rattle.dc.proofs.inner.luma_levels.Kinds as luma-levels
+use Rattle.dc.proofs.inner.luma_levels.Reads as luma-levels-reads
+use Rattle.dc.proofs.inner.luma_values.Kinds as luma-values
+use Rattle.dc.proofs.inner.luma_values.Reads as luma-values-reads
 use Rattle.dc.proofs.luma_dc_levels.Kinds as luma-dc-levels
 use Rattle.dc.proofs.luma_dc_levels.Reads as luma-dc-levels-reads
 use Rattle.dc.proofs.luma_dc_values.Kinds as luma-dc-values
@@ -13,6 +17,12 @@ use Rattle.dc.proofs.chroma_dc_levels.Kinds as chroma-dc-levels
 use Rattle.dc.proofs.chroma_dc_levels.Reads as chroma-dc-levels-reads
 use Rattle.dc.proofs.chroma_dc_values.Kinds as chroma-dc-values
 use Rattle.dc.proofs.chroma_dc_values.Reads as chroma-dc-values-reads
+
+pub luma-levels-unique : Unique 0 luma-levels.ps luma-levels.r luma-levels-reads.Learnt (Unit {0}) (λ κs e. tt)
+luma-levels-unique κs a x y e f p q = (p ∙ sym q, refl)
+
+pub luma-values-unique : Unique 0 luma-values.ps luma-values.r luma-values-reads.Learnt (Unit {0}) (λ κs e. tt)
+luma-values-unique κs a x y e f p q = (p ∙ sym q, refl)
 
 pub luma-dc-levels-unique : Unique 2 luma-dc-levels.ps luma-dc-levels.r luma-dc-levels-reads.Learnt (List ℤ) (λ κs e. now (e .1 .1 .0))
 luma-dc-levels-unique κs a x y e f p q = (same-answer x y (says-same (p .says) ∙ sym (says-same (q .says))), p .wrote ∙ sym (q .wrote))

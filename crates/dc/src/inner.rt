@@ -12,7 +12,7 @@ use quantizer::Class;
 use quantizer::Quantizer;
 
 // The levels of sixteen luma DC values, in zigzag order.
-pub(crate) fn luma_levels(quantizer: Quantizer, dc: [i32; 16]) -> [i32; 16]
+pub fn luma_levels(quantizer: Quantizer, dc: [i32; 16]) -> [i32; 16]
     requires { ⌜ (quantizer .qp ≤ highest) × (Each 4080 dc) ⌝ }
     ensures { λ r. ⌜ r ≡ lumaLevels (quantizer .qp) dc ⌝ }
 {
@@ -85,7 +85,7 @@ fn luma_scaled(quantizer: Quantizer, g: [i32; 16]) -> [i32; 16]
 }
 
 // The luma DC values of sixteen levels in zigzag order, in raster order.
-pub(crate) fn luma_values(quantizer: Quantizer, levels: [i32; 16]) -> [i32; 16]
+pub fn luma_values(quantizer: Quantizer, levels: [i32; 16]) -> [i32; 16]
     requires { ⌜ (quantizer .qp ≤ highest) × (Each 32768 levels) ⌝ }
     ensures { λ r. ⌜ r ≡ lumaValues (quantizer .qp) levels ⌝ }
 {

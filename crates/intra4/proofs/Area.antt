@@ -16,11 +16,11 @@ use Rattle.choice.specs.Choice.{is, no, at, bestOf, sad}
 use Rattle.choice.specs.Code.{standing, looked, Small}
 use Rattle.choice.proofs.Least.{best-same}
 use Rattle.intra4.specs.Samples.{mask}
-use Rattle.intra4.specs.Rules.{samples, none, predicted, permitted}
+use Rattle.intra4.specs.Rules.{samples, none, permitted}
 use Rattle.intra4.specs.Choice.{costOf, costsOf, chosen}
 use Rattle.intra4.specs.Entry.{Picks}
 use Rattle.intra4.specs.Code.{topRow, leftRow, filled, areaFilled, areaCost}
-use Rattle.intra4.proofs.Least.{some-mode}
+use Rattle.intra4.proofs.Least.{some-mode, cost-holds}
 use Rattle.intra4.proofs.Masked.{predicted-is, filled-is}
 
 -- ---- one mode
@@ -57,7 +57,7 @@ length-filled t s f (suc (suc (suc (suc (suc (suc (suc (suc (suc k))))))))) h = 
 area-at : (t s : List ℕ) (f m : ℕ) → m < 9 → take 16 (drop (16 * m) (areaFilled t s f)) ≡ filled t s f m
 area-at t s f m h = parts-at 16 (filled t s f) 9 m (length-filled t s f) h
 
-cond-cost : (b : Bool) (block l : List ℕ) → cond b (is (sad 16 l block)) no ≡ costOf block (cond b (samples l) none)
+cond-cost : (b : Bool) (block l : List ℕ) → cond b (is (sad 16 l block)) no ≡ costOf 4 block (cond b (samples l) none)
 cond-cost true block l = refl
 cond-cost false block l = refl
 
@@ -67,7 +67,7 @@ module _ (n : List ℕ) (f : ℕ) (block : List ℕ) (e : length n ≡ 13) where
   area-costs m h =
       ap (λ (l : List ℕ). cond (permitted f m) (is (sad 16 l block)) no) (area-at (topRow n f) (leftRow n) f m h)
       ∙ cond-cost (permitted f m) block (filled (topRow n f) (leftRow n) f m)
-      ∙ ap (costOf block) (sym (predicted-is n f m e))
+      ∙ ap (costOf 4 block) (sym (predicted-is n f m e))
 
   stands : {t s area : List ℕ} {b : Standing} → t ≡ topRow n f → s ≡ leftRow n → area ≡ areaFilled t s f → b ≡ standing (bestOf 9 (areaCost area f block))
       → b ≡ standing (chosen (mask n f) block)
@@ -79,14 +79,7 @@ module _ (n : List ℕ) (f : ℕ) (block : List ℕ) (e : length n ≡ 13) where
       ∙ ap standing (best-same 9 (areaCost (areaFilled (topRow n f) (leftRow n) f) f block) (costsOf (mask n f) block) area-costs)
 
   pub permitted-cost : (m s : ℕ) → costsOf (mask n f) block m ≡ is s → permitted f m ≡ true
-  permitted-cost m s c = by (permitted f m) refl
-    where
-      by : (b : Bool) → permitted f m ≡ b → permitted f m ≡ true
-      by true q = q
-      by false q =
-          let v : predicted (mask n f) m ≡ none = predicted-is n f m e ∙ rw q in
-          let z : no ≡ is s = sym (ap (costOf block) v) ∙ c in
-          cc
+  permitted-cost m s c = cost-holds 4 block (permitted f m) _ (predicted-is n f m e) c
 
   module _ {t s area : List ℕ} {b : Standing} (p : t ≡ topRow n f) (q : s ≡ leftRow n) (a : area ≡ areaFilled t s f) (h : b ≡ standing (bestOf 9 (areaCost area f block))) where
     pub picked-mode : b .mode < 9

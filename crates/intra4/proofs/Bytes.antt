@@ -7,15 +7,17 @@
 use mathlib.Core.Path.{_≡_, refl, sym, ap, _∙_}
 use mathlib.Core.Bool.{Bool, true, false, _&&_}
 use mathlib.Core.List.{List, []}
-use Prim.Native.Nat.{ℕ, zero, suc, _+_, _*_, _%_, _<_, _≤_}
+use Prim.Native.Nat.{ℕ, zero, suc, _+_, _*_, _/_, _%_, _<_, _≤_}
+use native.Mathlib.Nat.{div-lt-iff-lt-mul}
 use native.Mathlib.Omega.{arith}
 use lib.Dec.{ltb, eqb}
 use lib.IntN.{ℤ, pos, negsuc, _-ℤ_}
 use lib.ListN.{length, getD}
 use Rattle.lists.specs.Total.{total}
 use Rattle.lists.specs.Bytes.{Bytes}
+use Rattle.lists.proofs.Total.{total-low}
 use Rattle.lists.proofs.Bytes.{bytes-none, bytes-append, bytes-take, bytes-drop, bytes-replicate, byte-cond, bytes-cond, bytes-grid}
-use Rattle.intra4.specs.Samples.{Side, here, missing, Round, bitOf, sideIf, aboveOf, mask}
+use Rattle.intra4.specs.Samples.{Side, here, missing, Round, bitOf, sideIf, aboveOf, masked, mask}
 use Rattle.intra4.specs.Rules.{avg2, avg3, rowOf, byZ, mean, one, three, samplesOf, predicted, permitted}
 use Rattle.intra4.specs.Rules.{vertical, horizontal, downLeft, downRight, verticalRight, horizontalDown, verticalLeft, horizontalUp}
 use Rattle.intra4.specs.Choice.{Best, nothing, at, chosen, ChosenMode}
@@ -32,12 +34,19 @@ byte-avg2 h k = omega arith
 byte-avg3 : {a b c : ℕ} → a < 256 → b < 256 → c < 256 → avg3 a b c < 256
 byte-avg3 h k l = omega arith
 
-byte-four : {l : List ℕ} → Bytes l → total 4 (λ k. getD l k 0) ≤ 1020
-unfolding total
-byte-four b = omega (arith, b .byte 0, b .byte 1, b .byte 2, b .byte 3)
+byte-total : (n : ℕ) {l : List ℕ} → Bytes l → total n (λ k. getD l k 0) ≤ 255 * n
+byte-total n b = total-low n _ 255 (λ k l. omega (arith, b .byte k))
+
+-- the mean of two sides, and of one, by their sums and what rounds them
+module _ {n : ℕ} (p : 0 < n) where
+  pub byte-both : {a b c : ℕ} → a ≤ 255 * n → b ≤ 255 * n → c ≤ n → (a + b + c) / (2 * n) < 256
+  byte-both h k l = div-lt-iff-lt-mul {k = 2 * n} (omega arith) .1 (omega arith)
+
+  pub byte-single : {a c : ℕ} → a ≤ 255 * n → c ≤ n / 2 → (a + c) / n < 256
+  byte-single h l = div-lt-iff-lt-mul {k = n} p .1 (omega arith)
 
 -- a row of bytes
-abbrev Row : (ℤ → ℕ) → Type 0
+abbrev pub Row : (ℤ → ℕ) → Type 0
 Row T = (k : ℤ) → T k < 256
 
 row-bytes : {M side : List ℕ} → Bytes M → Bytes side → Row (rowOf M side)
@@ -45,17 +54,17 @@ row-bytes m s (pos k) = s .byte k
 row-bytes m s (negsuc k) = m .byte k
 
 -- a rule over one row, and over two
-abbrev Keeps : ((ℤ → ℕ) → ℕ → ℕ → ℕ) → Type 0
+abbrev pub Keeps : ((ℤ → ℕ) → ℕ → ℕ → ℕ) → Type 0
 Keeps rule = (T : ℤ → ℕ) → Row T → (x y : ℕ) → rule T x y < 256
 
-abbrev KeepsBoth : ((T S : ℤ → ℕ) → ℕ → ℕ → ℕ) → Type 0
+abbrev pub KeepsBoth : ((T S : ℤ → ℕ) → ℕ → ℕ → ℕ) → Type 0
 KeepsBoth rule = (T S : ℤ → ℕ) → Row T → Row S → (x y : ℕ) → rule T S x y < 256
 
-vertical-keeps : Keeps vertical
+pub vertical-keeps : Keeps vertical
 unfolding vertical
 vertical-keeps T t x y = t (pos x)
 
-horizontal-keeps : Keeps horizontal
+pub horizontal-keeps : Keeps horizontal
 unfolding horizontal
 horizontal-keeps S s x y = s (pos y)
 
@@ -93,65 +102,65 @@ horizontal-up-keeps S s x y =
 
 -- ---- what stands round a block
 
-abbrev SideBytes : Side → Type 0
+abbrev pub SideBytes : Side → Type 0
 SideBytes (here l) = Bytes l
 SideBytes missing = Unit {0}
 
-record RoundBytes (r : Round) : Type 0 where
-  above : SideBytes (r .above)
-  left : SideBytes (r .left)
-  corner : SideBytes (r .corner)
+pub record RoundBytes (r : Round) : Type 0 where
+  pub above : SideBytes (r .above)
+  pub left : SideBytes (r .left)
+  pub corner : SideBytes (r .corner)
 
 side-bytes : (t : Bool) {l : List ℕ} → Bytes l → SideBytes (sideIf t l)
 side-bytes true b = b
 side-bytes false b = tt
 
+pub masked-bytes : (f : ℕ) {above left corner : List ℕ} → Bytes above → Bytes left → Bytes corner → RoundBytes (masked above left corner f)
+masked-bytes f a l c = record { above = side-bytes (bitOf f 0) a; left = side-bytes (bitOf f 1) l; corner = side-bytes (bitOf f 2) c }
+
 mask-bytes : (n : List ℕ) (f : ℕ) → Bytes n → RoundBytes (mask n f)
 mask-bytes n f b =
     let above : Bytes (aboveOf n) = bytes-take 4 _ (bytes-drop 1 n b) in
-    record {
-      above =
-          side-bytes (bitOf f 0)
-          (bytes-append (aboveOf n) _ above (bytes-cond (bitOf f 3) (bytes-take 4 _ (bytes-drop 5 n b)) (bytes-replicate 4 (above .byte 3))));
-      left = side-bytes (bitOf f 1) (bytes-take 4 _ (bytes-drop 9 n b));
-      corner = side-bytes (bitOf f 2) (bytes-take 1 n b);
-    }
+    masked-bytes f
+    (bytes-append (aboveOf n) _ above (bytes-cond (bitOf f 3) (bytes-take 4 _ (bytes-drop 5 n b)) (bytes-replicate 4 (above .byte 3))))
+    (bytes-take 4 _ (bytes-drop 9 n b))
+    (bytes-take 1 n b)
 
 -- ---- the modes
 
-mean-byte : (a l : Side) → SideBytes a → SideBytes l → mean a l < 256
-mean-byte (here a) (here l) h k = omega (arith, byte-four h, byte-four k)
-mean-byte (here a) missing h k = omega (arith, byte-four h)
-mean-byte missing (here l) h k = omega (arith, byte-four k)
-mean-byte missing missing h k = omega arith
+pub mean-byte : (n : ℕ) → 0 < n → (a l : Side) → SideBytes a → SideBytes l → mean n a l < 256
+mean-byte n p (here a) (here l) h k = byte-both p (byte-total n h) (byte-total n k) (omega arith)
+mean-byte n p (here a) missing h k = byte-single p (byte-total n h) (omega arith)
+mean-byte n p missing (here l) h k = byte-single p (byte-total n k) (omega arith)
+mean-byte n p missing missing h k = omega arith
 
-one-bytes : (side : Side) → SideBytes side → (rule : (ℤ → ℕ) → ℕ → ℕ → ℕ) → Keeps rule → Bytes (samplesOf (one side rule))
-one-bytes (here l) b rule keeps = bytes-grid 4 _ (keeps (rowOf [] l) (row-bytes bytes-none b))
-one-bytes missing b rule keeps = bytes-none
+pub one-bytes : (n : ℕ) (side : Side) → SideBytes side → (rule : (ℤ → ℕ) → ℕ → ℕ → ℕ) → Keeps rule → Bytes (samplesOf (one n side rule))
+one-bytes n (here l) b rule keeps = bytes-grid n _ (keeps (rowOf [] l) (row-bytes bytes-none b))
+one-bytes n missing b rule keeps = bytes-none
 
-three-bytes : (a l m : Side) → SideBytes a → SideBytes l → SideBytes m → (rule : (T S : ℤ → ℕ) → ℕ → ℕ → ℕ) → KeepsBoth rule
-    → Bytes (samplesOf (three (record { above = a; left = l; corner = m }) rule))
-three-bytes (here a) (here l) (here m) b c d rule keeps =
-    bytes-grid 4 _ (keeps (rowOf m a) (rowOf m l) (row-bytes d b) (row-bytes d c))
-three-bytes (here a) (here l) missing b c d rule keeps = bytes-none
-three-bytes (here a) missing m b c d rule keeps = bytes-none
-three-bytes missing l m b c d rule keeps = bytes-none
+three-bytes : (n : ℕ) (a l m : Side) → SideBytes a → SideBytes l → SideBytes m → (rule : (T S : ℤ → ℕ) → ℕ → ℕ → ℕ) → KeepsBoth rule
+    → Bytes (samplesOf (three n (record { above = a; left = l; corner = m }) rule))
+three-bytes n (here a) (here l) (here m) b c d rule keeps =
+    bytes-grid n _ (keeps (rowOf m a) (rowOf m l) (row-bytes d b) (row-bytes d c))
+three-bytes n (here a) (here l) missing b c d rule keeps = bytes-none
+three-bytes n (here a) missing m b c d rule keeps = bytes-none
+three-bytes n missing l m b c d rule keeps = bytes-none
 
 module _ (r : Round) (b : RoundBytes r) where
-  three-of : (rule : (T S : ℤ → ℕ) → ℕ → ℕ → ℕ) → KeepsBoth rule → Bytes (samplesOf (three r rule))
-  three-of rule keeps = three-bytes (r .above) (r .left) (r .corner) (b .above) (b .left) (b .corner) rule keeps
+  pub three-of : (n : ℕ) (rule : (T S : ℤ → ℕ) → ℕ → ℕ → ℕ) → KeepsBoth rule → Bytes (samplesOf (three n r rule))
+  three-of n rule keeps = three-bytes n (r .above) (r .left) (r .corner) (b .above) (b .left) (b .corner) rule keeps
 
   mode-bytes : (m : ℕ) → Bytes (samplesOf (predicted r m))
   unfolding predicted
-  mode-bytes zero = one-bytes (r .above) (b .above) vertical vertical-keeps
-  mode-bytes (suc zero) = one-bytes (r .left) (b .left) horizontal horizontal-keeps
-  mode-bytes (suc (suc zero)) = bytes-grid 4 _ (λ x y. mean-byte (r .above) (r .left) (b .above) (b .left))
-  mode-bytes (suc (suc (suc zero))) = one-bytes (r .above) (b .above) downLeft down-left-keeps
-  mode-bytes (suc (suc (suc (suc zero)))) = three-of downRight down-right-keeps
-  mode-bytes (suc (suc (suc (suc (suc zero))))) = three-of verticalRight vertical-right-keeps
-  mode-bytes (suc (suc (suc (suc (suc (suc zero)))))) = three-of horizontalDown horizontal-down-keeps
-  mode-bytes (suc (suc (suc (suc (suc (suc (suc zero))))))) = one-bytes (r .above) (b .above) verticalLeft vertical-left-keeps
-  mode-bytes (suc (suc (suc (suc (suc (suc (suc (suc zero)))))))) = one-bytes (r .left) (b .left) horizontalUp horizontal-up-keeps
+  mode-bytes zero = one-bytes 4 (r .above) (b .above) vertical vertical-keeps
+  mode-bytes (suc zero) = one-bytes 4 (r .left) (b .left) horizontal horizontal-keeps
+  mode-bytes (suc (suc zero)) = bytes-grid 4 _ (λ x y. mean-byte 4 (omega arith) (r .above) (r .left) (b .above) (b .left))
+  mode-bytes (suc (suc (suc zero))) = one-bytes 4 (r .above) (b .above) downLeft down-left-keeps
+  mode-bytes (suc (suc (suc (suc zero)))) = three-of 4 downRight down-right-keeps
+  mode-bytes (suc (suc (suc (suc (suc zero))))) = three-of 4 verticalRight vertical-right-keeps
+  mode-bytes (suc (suc (suc (suc (suc (suc zero)))))) = three-of 4 horizontalDown horizontal-down-keeps
+  mode-bytes (suc (suc (suc (suc (suc (suc (suc zero))))))) = one-bytes 4 (r .above) (b .above) verticalLeft vertical-left-keeps
+  mode-bytes (suc (suc (suc (suc (suc (suc (suc (suc zero)))))))) = one-bytes 4 (r .left) (b .left) horizontalUp horizontal-up-keeps
   mode-bytes (suc (suc (suc (suc (suc (suc (suc (suc (suc m))))))))) = bytes-none
 
 -- ---- the theorems

@@ -2,7 +2,7 @@
 --     corner-only                              only (3,3) has columns and rows that add up to 6
 --     below-diagonal, above-diagonal           what the code's z says of x and y
 --     past-at, corner-at                       a row past its corner, and the corner
---     two-back, three-back, three-down         the paper's T and S at a difference, as the code counts them
+--     back, two-back, three-back, three-down   the paper's T and S at a difference, as the code counts them
 --     z-positive, z-minus-one, z-below         the paper's z of mode 5
 --     odd-z, even-z                            what the keys of mode 5, on z and 3 more, say of it
 --     even-row, odd-row                        those of mode 7, on y
@@ -58,15 +58,18 @@ module _ (l : List ℕ) (a b : ℕ) where
   further : (c : ℕ) → Diff (pos a -ℤ pos b -ℤ pos c) (a + 0 + 0) (0 + b + c)
   further c = diff-minus (less a b) (diff-self (pos c))
 
+  pub back : (c k : ℕ) → a + 1 ≡ b + c + k → withCorner l (pos a -ℤ pos b -ℤ pos c) ≡ getD l k 0
+  back c k e = placed l _ k (further c) (omega arith)
+
   pub two-back : b ≤ a → (withCorner l (pos a -ℤ pos b -ℤ pos 1) ≡ getD l (a - b) 0) × (withCorner l (pos a -ℤ pos b) ≡ getD l (a - b + 1) 0)
-  two-back h = (placed l _ (a - b) (further 1) (omega arith), placed l _ (a - b + 1) (less a b) (omega arith))
+  two-back h = (back 1 (a - b) (omega arith), placed l _ (a - b + 1) (less a b) (omega arith))
 
   pub three-back : b < a
       → (withCorner l (pos a -ℤ pos b -ℤ pos 2) ≡ getD l (a - b - 1) 0)
       × (withCorner l (pos a -ℤ pos b -ℤ pos 1) ≡ getD l (a - b - 1 + 1) 0)
       × (withCorner l (pos a -ℤ pos b) ≡ getD l (a - b - 1 + 2) 0)
   three-back h =
-      (placed l _ (a - b - 1) (further 2) (omega arith), placed l _ (a - b - 1 + 1) (further 1) (omega arith), placed l _ (a - b - 1 + 2) (less a b) (omega arith))
+      (back 2 (a - b - 1) (omega arith), back 1 (a - b - 1 + 1) (omega arith), placed l _ (a - b - 1 + 2) (less a b) (omega arith))
 
 pub three-down : (l : List ℕ) (a : ℕ) → 2 ≤ a
     → (withCorner l (pos a -ℤ pos 3) ≡ getD l (a - 2) 0)

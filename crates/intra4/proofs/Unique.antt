@@ -10,6 +10,10 @@ use Rattle.intra4.proofs.predict.Kinds as predict
 use Rattle.intra4.proofs.predict.Reads as predict-reads
 use Rattle.intra4.proofs.choose.Kinds as choose
 use Rattle.intra4.proofs.choose.Reads as choose-reads
+use Rattle.intra4.proofs.inner.flag.Kinds as flag
+use Rattle.intra4.proofs.inner.flag.Reads as flag-reads
+use Rattle.intra4.proofs.inner.all.Kinds as all
+use Rattle.intra4.proofs.inner.all.Reads as all-reads
 use Rattle.intra4.proofs.inner.permitted.Kinds as permitted
 use Rattle.intra4.proofs.inner.permitted.Reads as permitted-reads
 use Rattle.intra4.proofs.inner.fill.Kinds as fill
@@ -22,6 +26,12 @@ predict-unique κs a x y e f p q = (same-answer x y (says-same (p .says) ∙ sym
 
 pub choose-unique : Unique 3 choose.ps choose.r choose-reads.Learnt (List ℕ) (λ κs e. now (e .1 .1 .1 .0))
 choose-unique κs a x y e f p q = (same-chosen x y (says-same (p .says) ∙ sym (says-same (q .says))) (p .best ∙ sym (q .best)), p .wrote ∙ sym (q .wrote))
+
+pub flag-unique : Unique 0 flag.ps flag.r flag-reads.Learnt (Unit {0}) (λ κs e. tt)
+flag-unique κs a x y e f p q = (p ∙ sym q, refl)
+
+pub all-unique : Unique 0 all.ps all.r all-reads.Learnt (Unit {0}) (λ κs e. tt)
+all-unique κs a x y e f p q = (p ∙ sym q, refl)
 
 pub permitted-unique : Unique 0 permitted.ps permitted.r permitted-reads.Learnt (Unit {0}) (λ κs e. tt)
 permitted-unique κs a x y e f p q = (p ∙ sym q, refl)

@@ -3,22 +3,22 @@
 use mathlib.Core.Path.{_≡_}
 use mathlib.Core.Bool.{true}
 use mathlib.Core.List.{List}
-use Prim.Native.Nat.{ℕ, _<_}
+use Prim.Native.Nat.{ℕ, _*_, _<_}
 use Rattle.choice.specs.Choice.{Cost, is, no}
 -- the crates above name these here
-pub use Rattle.choice.specs.Choice.{Best, nothing, at}
+pub use Rattle.choice.specs.Choice.{Best, nothing, at, modeOf}
 unfoldable pub use Rattle.choice.specs.Choice.{sad, bestOf}
 use Rattle.intra4.specs.Samples.{Round, mask}
 use Rattle.intra4.specs.Rules.{Predicted, samples, none, predicted, permitted}
 
--- a mode's SAD over the sixteen samples of a block
-abbrev pub costOf : List ℕ → Predicted → Cost
-costOf block (samples l) = is (sad 16 l block)
-costOf block none = no
+-- a mode's SAD over the n by n samples of a block
+abbrev pub costOf : ℕ → List ℕ → Predicted → Cost
+costOf n block (samples l) = is (sad (n * n) l block)
+costOf n block none = no
 
 -- what each mode costs round a block
 abbrev pub costsOf : Round → List ℕ → ℕ → Cost
-costsOf r block m = costOf block (predicted r m)
+costsOf r block m = costOf 4 block (predicted r m)
 
 -- the best of the nine
 unfoldable pub chosen : Round → List ℕ → Best

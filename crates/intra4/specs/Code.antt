@@ -31,7 +31,7 @@ leftRow n = getD n 0 0 ∷ getD n 9 0 ∷ getD n 10 0 ∷ getD n 11 0 ∷ getD n
 
 -- the mean of what the flags leave of the rows, past the corner
 abbrev pub meanOf : (t s : List ℕ) → ℕ → ℕ
-meanOf t s f = mean (sideIf (bitOf f 0) (drop 1 t)) (sideIf (bitOf f 1) (drop 1 s))
+meanOf t s f = mean 4 (sideIf (bitOf f 0) (drop 1 t)) (sideIf (bitOf f 1) (drop 1 s))
 
 -- a mode's sixteen samples over the rows
 unfoldable pub filled : (t s : List ℕ) → ℕ → ℕ → List ℕ

@@ -10,7 +10,7 @@ use lib.ListN.{getD}
 use Rattle.whole.specs.Notation.{minus}
 use Rattle.lists.specs.Tab.{grid}
 use Rattle.lists.specs.Total.{total}
-use Rattle.intra4.specs.Samples.{Side, here, missing, Round, bitOf}
+use Rattle.intra4.specs.Samples.{Side, here, missing, Round, bitOf, allPresent}
 
 -- "avg2(a,b)=(a+b+1)/2"
 abbrev pub avg2 : ℕ → ℕ → ℕ
@@ -33,12 +33,12 @@ vertical T x y = T (pos x)
 unfoldable pub horizontal : (S : ℤ → ℕ) → ℕ → ℕ → ℕ
 horizontal S x y = S (pos y)
 
--- 2 DC: "all eight: (sum+4)/8; one side of four: (sum+2)/4; none: 128"
-abbrev pub mean : Side → Side → ℕ
-mean (here a) (here l) = (total 4 (λ k. getD a k 0) + total 4 (λ k. getD l k 0) + 4) / 8
-mean (here a) missing = (total 4 (λ k. getD a k 0) + 2) / 4
-mean missing (here l) = (total 4 (λ k. getD l k 0) + 2) / 4
-mean missing missing = 128
+-- 2 DC: "all eight: (sum+4)/8; one side of four: (sum+2)/4; none: 128", here over sides of n
+abbrev pub mean : ℕ → Side → Side → ℕ
+mean n (here a) (here l) = (total n (λ k. getD a k 0) + total n (λ k. getD l k 0) + n) / (2 * n)
+mean n (here a) missing = (total n (λ k. getD a k 0) + n / 2) / n
+mean n missing (here l) = (total n (λ k. getD l k 0) + n / 2) / n
+mean n missing missing = 128
 
 -- 3 down-left: "avg3(T(x+y),T(x+y+1),T(x+y+2)); at (3,3) avg3(G,H,H)"
 unfoldable pub downLeft : (T : ℤ → ℕ) → ℕ → ℕ → ℕ
@@ -91,7 +91,7 @@ horizontalUp S x y =
     (cond (eqb (z % 2) 0) (avg2 (S (pos (y + h))) (S (pos (y + h + 1))))
     (avg3 (S (pos (y + h))) (S (pos (y + h + 1))) (S (pos (y + h + 2))))))
 
--- sixteen samples, or no prediction
+-- samples, or no prediction
 pub data Predicted : Type 0 where
   samples : List ℕ → Predicted
   none : Predicted
@@ -101,28 +101,28 @@ abbrev pub needs : Side → (List ℕ → Predicted) → Predicted
 needs (here l) f = f l
 needs missing f = none
 
--- a mode that needs one side: it is shown no M
-abbrev pub one : Side → ((ℤ → ℕ) → ℕ → ℕ → ℕ) → Predicted
-one side rule = needs side (λ l. samples (grid 4 (rule (rowOf [] l))))
+-- a mode of n by n samples that needs one side: it is shown no M
+abbrev pub one : ℕ → Side → ((ℤ → ℕ) → ℕ → ℕ → ℕ) → Predicted
+one n side rule = needs side (λ l. samples (grid n (rule (rowOf [] l))))
 
--- a mode that needs A-D, I-L and M
-abbrev pub three : Round → ((T S : ℤ → ℕ) → ℕ → ℕ → ℕ) → Predicted
-three r rule =
+-- one that needs A-D, I-L and M
+abbrev pub three : ℕ → Round → ((T S : ℤ → ℕ) → ℕ → ℕ → ℕ) → Predicted
+three n r rule =
     needs (r .above) (λ a. needs (r .left) (λ l. needs (r .corner) (λ M.
-    samples (grid 4 (rule (rowOf M a) (rowOf M l))))))
+    samples (grid n (rule (rowOf M a) (rowOf M l))))))
 
 -- the paper's table, in the order of the numbers
 abbrev pub modes : Round → List Predicted
 modes r =
-    one (r .above) vertical
-    ∷ one (r .left) horizontal
-    ∷ samples (grid 4 (λ x y. mean (r .above) (r .left)))
-    ∷ one (r .above) downLeft
-    ∷ three r downRight
-    ∷ three r verticalRight
-    ∷ three r horizontalDown
-    ∷ one (r .above) verticalLeft
-    ∷ one (r .left) horizontalUp
+    one 4 (r .above) vertical
+    ∷ one 4 (r .left) horizontal
+    ∷ samples (grid 4 (λ x y. mean 4 (r .above) (r .left)))
+    ∷ one 4 (r .above) downLeft
+    ∷ three 4 r downRight
+    ∷ three 4 r verticalRight
+    ∷ three 4 r horizontalDown
+    ∷ one 4 (r .above) verticalLeft
+    ∷ one 4 (r .left) horizontalUp
     ∷ []
 
 -- a number above 8 is no mode
@@ -138,5 +138,5 @@ unfoldable pub permitted : ℕ → ℕ → Bool
 permitted f m =
     let A-D = bitOf f 0 in
     let I-L = bitOf f 1 in
-    let all = bitOf f 0 && (bitOf f 1 && bitOf f 2) in
+    let all = allPresent f in
     getD (A-D ∷ I-L ∷ true ∷ A-D ∷ all ∷ all ∷ all ∷ A-D ∷ I-L ∷ []) m false

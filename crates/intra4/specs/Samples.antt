@@ -1,7 +1,7 @@
 -- What stands round a block, and the mask that leaves a missing sample without a value (01, "Samples round a block").
 -- Assumes nothing.
 use mathlib.Core.Path.{_≡_}
-use mathlib.Core.Bool.{Bool, true, cond}
+use mathlib.Core.Bool.{Bool, true, cond, _&&_}
 use mathlib.Core.List.{List, _++_}
 use Prim.Native.Nat.{ℕ, _/_, _%_, _^_}
 use lib.Dec.{eqb}
@@ -44,13 +44,21 @@ pub record Round : Type 0 where
 abbrev pub eightOf : List ℕ → Bool → List ℕ
 eightOf n present = aboveOf n ++ cond present (upperRightOf n) (replicate 4 (getD (aboveOf n) 3 0))
 
+-- what the flags leave of what is above, at the left and in the corner
+abbrev pub masked : (above left corner : List ℕ) → ℕ → Round
+masked above left corner f = record {
+  above = sideIf (bitOf f 0) above;
+  left = sideIf (bitOf f 1) left;
+  corner = sideIf (bitOf f 2) corner;
+}
+
 -- all that a prediction may see: "If A-D are missing, E-H serve no mode"
 abbrev pub mask : List ℕ → ℕ → Round
-mask n f = record {
-  above = sideIf (bitOf f 0) (eightOf n (bitOf f 3));
-  left = sideIf (bitOf f 1) (leftOf n);
-  corner = sideIf (bitOf f 2) (cornerOf n);
-}
+mask n f = masked (eightOf n (bitOf f 3)) (leftOf n) (cornerOf n) f
+
+-- "all": A-D, I-L and M are present
+abbrev pub allPresent : ℕ → Bool
+allPresent f = bitOf f 0 && (bitOf f 1 && bitOf f 2)
 
 -- lists that agree wherever the flags f say that a sample is present: "bit 0 A-D, bit 1 I-L, bit 2 M, bit 3 E-H"; E-H count only where A-D
 -- are present too

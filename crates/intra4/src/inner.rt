@@ -1,8 +1,9 @@
 // What the crates above call, without tests.
 ghost use mathlib.Core.Path.{_≡_};
 ghost use mathlib.Core.Bool.{true};
+ghost use Prim.Native.Nat.{_<_};
 ghost use lib.ListN.{length};
-ghost use Rattle.intra4.specs.Samples.{mask};
+ghost use Rattle.intra4.specs.Samples.{bitOf, mask, allPresent};
 ghost use Rattle.intra4.specs.Rules as paper;
 ghost use Rattle.intra4.specs.Entry.{Picks};
 ghost use Rattle.intra4.specs.Code.{withSamples};
@@ -18,20 +19,43 @@ pub struct Choice {
     pub prediction: [u8; 16],
 }
 
+// Bit k of the flags.
+pub fn flag(flags: u8, k: u8) -> bool
+    requires { ⌜ k < 8 ⌝ }
+    ensures { λ r. ⌜ r ≡ bitOf flags k ⌝ }
+{
+    (flags >> k) & 1 == 1
+}
+
+// A-D, I-L and M are present.
+pub fn all(flags: u8) -> bool
+    ensures { λ r. ⌜ r ≡ allPresent flags ⌝ }
+{
+    if flag(flags, 0) {
+        if flag(flags, 1) {
+            flag(flags, 2)
+        } else {
+            false
+        }
+    } else {
+        false
+    }
+}
+
 // What the mode needs is present. A number above 8 is no mode.
 pub fn permitted(flags: u8, mode: u8) -> bool
     ensures { λ r. ⌜ r ≡ paper.permitted flags mode ⌝ }
 {
     match mode {
-        0 => samples::flag(flags, 0),
-        1 => samples::flag(flags, 1),
+        0 => flag(flags, 0),
+        1 => flag(flags, 1),
         2 => true,
-        3 => samples::flag(flags, 0),
-        4 => samples::all(flags),
-        5 => samples::all(flags),
-        6 => samples::all(flags),
-        7 => samples::flag(flags, 0),
-        8 => samples::flag(flags, 1),
+        3 => flag(flags, 0),
+        4 => all(flags),
+        5 => all(flags),
+        6 => all(flags),
+        7 => flag(flags, 0),
+        8 => flag(flags, 1),
         _ => false,
     }
 }

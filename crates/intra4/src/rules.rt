@@ -5,7 +5,7 @@ ghost use lib.ListN.{length, getD, drop};
 ghost use Rattle.lists.specs.Total.{total};
 ghost use Rattle.intra4.specs.Rules as paper;
 ghost use Rattle.intra4.specs.Code.{withCorner, pastCorner, meanOf};
-use crate::samples::flag;
+use crate::inner::flag;
 
 fn avg2(a: u8, b: u8) -> u8
     ensures { λ r. ⌜ r ≡ paper.avg2 a b ⌝ }

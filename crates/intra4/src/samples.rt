@@ -1,33 +1,8 @@
-// What the flags say, and the rows that the rules read.
+// The rows that the rules read.
 ghost use mathlib.Core.Path.{_≡_};
-ghost use mathlib.Core.Bool.{_&&_};
-ghost use Prim.Native.Nat.{_<_};
 ghost use lib.ListN.{length};
-ghost use Rattle.intra4.specs.Samples.{bitOf};
 ghost use Rattle.intra4.specs.Code.{topRow, leftRow};
-
-// Bit k of the flags.
-pub(crate) fn flag(flags: u8, k: u8) -> bool
-    requires { ⌜ k < 8 ⌝ }
-    ensures { λ r. ⌜ r ≡ bitOf flags k ⌝ }
-{
-    (flags >> k) & 1 == 1
-}
-
-// A-D, I-L and M are present.
-pub(crate) fn all(flags: u8) -> bool
-    ensures { λ r. ⌜ r ≡ (bitOf flags 0 && (bitOf flags 1 && bitOf flags 2)) ⌝ }
-{
-    if flag(flags, 0) {
-        if flag(flags, 1) {
-            flag(flags, 2)
-        } else {
-            false
-        }
-    } else {
-        false
-    }
-}
+use crate::inner::flag;
 
 // The corner and what stands above; the corner and what stands at the left.
 pub(crate) struct Rows {

@@ -1,11 +1,10 @@
 -- What is written over the front of what stood there.
---     over-none, over-all      nothing; over an area that is as long
 --     length-over              the area keeps its length
 --     over-again               over what has been written already
 --     over-more                what stands behind was lent, and came home with more written over its front
 -- Assumes nothing.
 use mathlib.Core.Path.{_≡_, refl, sym, ap, _∙_}
-use mathlib.Core.List.{List, [], _++_, append-assoc, append-nil}
+use mathlib.Core.List.{List, _++_, append-assoc, append-nil}
 use Prim.Native.Nat.{ℕ, _+_, _-_, _≤_}
 use native.Mathlib.Omega.{arith}
 use borrow.Rule.Slice.PartMut.{putMid}
@@ -15,12 +14,6 @@ use Rattle.lists.specs.Parts.{over}
 use Rattle.lists.proofs.Parts.{part-home}
 
 module _ {A : Type 0} where
-  pub over-none : (old : List A) → over [] old ≡ old
-  over-none old = refl
-
-  pub over-all : (new old : List A) → length old ≡ length new → over new old ≡ new
-  over-all new old e = ap (λ (l : List A). new ++ l) (drop-of-length-le old {i = length new} (omega arith)) ∙ append-nil new
-
   pub length-over : (new old : List A) → length new ≤ length old → length (over new old) ≡ length old
   length-over new old h = omega (arith, length-append new (drop (length new) old), length-drop (length new) old)
 

@@ -5,7 +5,7 @@
 --     parts-more, parts-same                                                parts one behind the other; equal rules
 --     parts-split, parts-front, part-behind                                 what stands before part k and behind it
 --     length-parts, parts-at                                                where all parts are of one size
---     part-home, part-read, front-home                                      a lent part that comes home, as a paste; read again; at the front
+--     part-home, front-home                                                 a lent part that comes home, as a paste; at the front
 -- Assumes nothing.
 use mathlib.Core.Path.{_≡_, refl, sym, ap, _∙_}
 use mathlib.Core.List.{List, [], _∷_, _++_, append-assoc, append-nil}
@@ -144,7 +144,3 @@ module _ {A : Type 0} where
   -- at the front it goes over what stood there
   pub front-home : (d w : List A) (e : ℕ) → length w ≡ e - 0 → putMid 0 (e - 0) d w ≡ over w d
   front-home d w e l = let z : 0 + length w ≡ length w = omega arith in part-home d w 0 e (omega arith) l ∙ ap (λ (n : ℕ). w ++ drop n d) z
-
-  pub part-read : (d w : List A) (a e : ℕ) → a ≤ length d → length w ≡ e - a → take (e - a) (drop a (putMid a (e - a) d w)) ≡ w
-  part-read d w a e h l =
-      ap (take (e - a)) (drop-at (take a d) (w ++ postOf a (e - a) d) a (length-take-le a d h)) ∙ take-at w (postOf a (e - a) d) (e - a) l

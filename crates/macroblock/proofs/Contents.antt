@@ -1,136 +1,111 @@
--- What the tests of a record's content come to, and what a fine content gives.
---     levels-small               levels read from a file have 16 bits
---     range-clean, range-found   a block's range, by the scan of its numbers
---     quantizer-high, mode-far, range-far, content-fine     the four verdicts
---     Fine, fine                 what is known of a record whose content is fine
+-- The content of a record of either kind, and that a decoder accepts the coder's record and rebuilds its macroblock as the coder did.
+--     kind-long                   either kind has a mark
+--     tests-whole, tests-fours, rebuilt-whole, rebuilt-fours     the tests and the step of a record, by its kind
+--     content-not-form            no test of a record's content has FORM for its refusal
+--     content-own, step-again     of the coder's record: its content is fine; its macroblock is rebuilt as the coder rebuilt it
 -- Assumes nothing.
 use mathlib.Core.Path.{_≡_, refl, sym, ap, _∙_}
-use mathlib.Core.Bool.{Bool, true, false, not}
+use mathlib.Core.Bool.{Bool, true, false, cond}
 use mathlib.Core.List.{List}
-use Prim.Native.Nat.{ℕ, suc, _+_, _-_, _*_, _<_, _≤_}
+use mathlib.Core.Logic.{inl, inr}
+use Prim.Native.Nat.{ℕ, _<_, _≤_}
 use native.Mathlib.Omega.{arith}
-use borrow.Author.Tests.{eq-eqb, ne-eqb, le-leb, lt-leb, eqb-true, leb-true, ltb-true, ltb-false, not-false}
-use lib.Dec.{ltb}
-use lib.IntN.{ℤ, pos, negsuc, _*ℤ_}
-use lib.ListN.{length, getD}
-use mir.Syntax.{w16}
-use mir.Val.{sel, toZ}
-use Rattle.lists.specs.Chain.{pass, stop, chain}
-use Rattle.lists.specs.First.{first}
+use Rattle.lists.specs.Bytes.{Bytes}
+use Rattle.lists.specs.Chain.{pass, stop, chain, RefusedWith}
 use Rattle.lists.proofs.Chain.{chain-exactly-if}
-use Rattle.lists.proofs.First.{first-le, first-before}
-use Rattle.lists.proofs.Tab.{length-tab}
 use Rattle.refusal.specs.declared.Refusal.the-variants as refusal
-use Rattle.whole.specs.Bounds.{Within, Each}
-use Rattle.whole.specs.Range.{firstOutside}
-use Rattle.whole.proofs.Lists.{each-tab}
-use Rattle.whole.proofs.Range.{outsideAt}
-use Rattle.residual.specs.Entry.{firstWide}
-use Rattle.residual.specs.Order.{inZigzag, inPlaces}
-use Rattle.residual.specs.Rescale.{scaledBy, vAt, rescaled}
-use Rattle.residual.proofs.Entry.{range-each}
-use Rattle.residual.proofs.Order.{length-zigzag}
-use Rattle.quantizer.specs.Range.{highest, periodOf}
-use Rattle.intra4.specs.Rules.{permitted}
-use Rattle.record.specs.Kinds.{inFours}
-use Rattle.record.specs.Numbers.{numberAt}
-use Rattle.record.specs.Records.{qpIn, modeIn, levelIn, levelsIn}
+use Rattle.quantizer.specs.Range.{highest}
+use Rattle.record.specs.Kinds.{inFours, inWhole, lengthOf}
+use Rattle.record.specs.Records.{isWhole}
 use Rattle.picture.specs.declared.Layout.{Layout}
-use Rattle.picture.specs.Presence.{flagsOf}
-use Rattle.macroblock.specs.Content.{rescaledIn, modeHolds, rangeHolds, firstMode, firstRange, contentTests}
+use Rattle.macroblock4.specs.Code.{recordFrom4, codedStep4}
+use Rattle.macroblock4.specs.Content.{contentTests4}
+use Rattle.macroblock4.specs.Rebuild.{rebuiltStep4}
+use Rattle.macroblock4.proofs.CodedRecord.{content-own4, step-again4}
+use Rattle.macroblock4.proofs.RecordFrom.{not-whole-from4}
+use Rattle.macroblock16.specs.Code.{recordFrom16, codedStep16}
+use Rattle.macroblock16.specs.Content.{contentTests16}
+use Rattle.macroblock16.specs.Rebuild.{rebuiltStep16}
+use Rattle.macroblock16.proofs.CodedRecord.{is-whole-from16, content-own16, step-again16}
+use Rattle.macroblock.specs.Code.{recordFrom, codedStep}
+use Rattle.macroblock.specs.Content.{kindBy, contentTests}
+use Rattle.macroblock.specs.Rebuild.{rebuiltStep}
+use Rattle.macroblock.proofs.RecordFrom.{together}
 
-level-small : (n : ℕ) → Within 32768 (toZ w16 n)
-level-small n = by (ltb n 32768) refl
+-- either kind has a mark
+pub kind-long : (part : List ℕ) → 1 < lengthOf (kindBy part)
+kind-long part = by (isWhole part)
   where
-    by : (t : Bool) → ltb n 32768 ≡ t → Within 32768 (sel t (pos n) (negsuc (65536 - suc n)))
-    by true e = record { size = omega (arith, ltb-true n 32768 e) }
-    by false e = record { size = omega (arith, ltb-false n 32768 e) }
-
-pub levels-small : (part : List ℕ) (b : ℕ) → Each 32768 (levelsIn b part)
-unfolding levelsIn
-levels-small part b = each-tab 32768 16 (λ k. levelIn b k part) (λ k h. level-small (numberAt (inFours .front + 2 * (16 * b + k)) part))
-
--- a number outside 16 bits, as the definition hands it to `first`
-abbrev pub wideAt : List ℤ → ℕ → Bool
-wideAt d k = outsideAt (negsuc 32767) (pos 32767) d k
-
-module _ (part : List ℕ) (b : ℕ) where
-  wide-is : firstWide (inZigzag (rescaledIn part b)) ≡ first 16 (wideAt (inZigzag (rescaledIn part b)))
-  unfolding firstOutside
-  wide-is = ap (λ (n : ℕ). first n (wideAt (inZigzag (rescaledIn part b)))) (length-zigzag (rescaledIn part b))
-
-  pub range-clean : first 16 (wideAt (inZigzag (rescaledIn part b))) ≡ 16 → rangeHolds part b ≡ true
-  unfolding rangeHolds
-  range-clean e = eq-eqb (firstWide (inZigzag (rescaledIn part b))) 16 (wide-is ∙ e)
-
-  pub range-found : (k : ℕ) → k < 16 → first 16 (wideAt (inZigzag (rescaledIn part b))) ≡ k → rangeHolds part b ≡ false
-  unfolding rangeHolds
-  range-found k h e = ne-eqb (firstWide (inZigzag (rescaledIn part b))) 16 (λ q. omega (arith, wide-is, e, q))
-
-  length-rescaled : length (rescaledIn part b) ≡ 16
-  unfolding rescaledIn rescaled
-  length-rescaled = length-tab 16 (λ place. scaledBy 0 (periodOf (qpIn part)) (getD (inPlaces (levelsIn b part)) place (pos 0) *ℤ pos (vAt (qpIn part) place)))
-
-  -- what rebuilding asks of the numbers
-  pub numbers-fit : rangeHolds part b ≡ true → Each 32768 (rescaledIn part b)
-  unfolding rangeHolds
-  numbers-fit e = range-each (rescaledIn part b) length-rescaled (omega (arith, eqb-true (firstWide (inZigzag (rescaledIn part b))) 16 e))
-
--- a mode that holds is permitted, of the flags and the number that the code has read
-pub holds-by : (l : Layout) (m : ℕ) (part : List ℕ) (b : ℕ) {flags mode : ℕ} → flags ≡ flagsOf 4 l m b → mode ≡ modeIn b part → modeHolds l m part b ≡ true
-    → permitted flags mode ≡ true
-unfolding modeHolds
-holds-by l m part b ef em h = rw (ef, em) h
+    by : (b : Bool) → 1 < lengthOf (cond b inWhole inFours)
+    by true = omega arith
+    by false = omega arith
 
 module _ (l : Layout) (m : ℕ) (part : List ℕ) where
-  pub mode-le : firstMode l m part ≤ 16
-  unfolding firstMode
-  mode-le = first-le (λ b. not (modeHolds l m part b)) 16
+  pub tests-whole : isWhole part ≡ true → contentTests l m part ≡ contentTests16 l m part
+  unfolding contentTests
+  tests-whole e = rw e
 
-  pub range-le : firstRange part ≤ 16
-  unfolding firstRange
-  range-le = first-le (λ b. not (rangeHolds part b)) 16
+  pub tests-fours : isWhole part ≡ false → contentTests l m part ≡ contentTests4 l m part
+  unfolding contentTests
+  tests-fours e = rw e
 
-  pub quantizer-high : highest < qpIn part → chain (contentTests l m part) ≡ stop (refusal.Quantizer (16 * m))
-  quantizer-high h = simp (lt-leb (qpIn part) highest h)
+  pub rebuilt-whole : (plane : List ℕ) → isWhole part ≡ true → rebuiltStep l m part plane ≡ rebuiltStep16 l m part plane
+  unfolding rebuiltStep
+  rebuilt-whole plane e = rw e
 
-  module _ (legal : qpIn part ≤ highest) where
-    pub mode-far : firstMode l m part < 16 → chain (contentTests l m part) ≡ stop (refusal.Mode (16 * m + firstMode l m part))
-    mode-far h =
-        let n : (firstMode l m part ≡ 16 → ⊥) = λ e. omega arith in
-        simp (le-leb (qpIn part) highest legal, ne-eqb (firstMode l m part) 16 n)
+  pub rebuilt-fours : (plane : List ℕ) → isWhole part ≡ false → rebuiltStep l m part plane ≡ rebuiltStep4 l m part plane
+  unfolding rebuiltStep
+  rebuilt-fours plane e = rw e
 
-    -- the refusal that the code sends back, of the block that it found
-    pub mode-sent : {b : ℕ} → b ≡ firstMode l m part → b < 16 → stop (refusal.Mode (16 * m + b)) ≡ chain (contentTests l m part)
-    mode-sent {b} e h = ap (λ (k : ℕ). stop (refusal.Mode (16 * m + k))) e ∙ sym (mode-far (omega arith))
+-- ---- FORM is none of its refusals
 
-    module _ (modes : 16 ≤ firstMode l m part) where
-      pub range-far : firstRange part < 16 → chain (contentTests l m part) ≡ stop (refusal.Range (16 * m + firstRange part))
-      range-far h =
-          let e : firstMode l m part ≡ 16 = omega (arith, mode-le) in
-          let n : (firstRange part ≡ 16 → ⊥) = λ e. omega arith in
-          simp (le-leb (qpIn part) highest legal, eq-eqb (firstMode l m part) 16 e, ne-eqb (firstRange part) 16 n)
+whole-not-form : (l : Layout) (m : ℕ) (part : List ℕ) (place : ℕ) → chain (contentTests16 l m part) ≡ stop (refusal.Form place) → ⊥
+whole-not-form l m part place e = by (chain-exactly-if (contentTests16 l m part) .refuses (refusal.Form place) .0 e)
+  where
+    by : RefusedWith (contentTests16 l m part) (refusal.Form place) → ⊥
+    by (inl (a, q)) = let z : _≡_ {A = ℕ} 0 1 = cc in omega arith
+    by (inr (a, inl (b, q))) = let z : _≡_ {A = ℕ} 0 1 = cc in omega arith
+    by (inr (a, inr (b, inl (c, q)))) = let z : _≡_ {A = ℕ} 0 1 = cc in omega arith
+    by (inr (a, inr (b, inr (c, inl (d, q))))) = let z : _≡_ {A = ℕ} 0 1 = cc in omega arith
+    by (inr (a, inr (b, inr (c, inr (d, q))))) = q
 
-      pub content-fine : 16 ≤ firstRange part → chain (contentTests l m part) ≡ pass
-      content-fine h =
-          let e : firstMode l m part ≡ 16 = omega (arith, mode-le) in
-          let f : firstRange part ≡ 16 = omega (arith, range-le) in
-          simp (le-leb (qpIn part) highest legal, eq-eqb (firstMode l m part) 16 e, eq-eqb (firstRange part) 16 f)
+fours-not-form : (l : Layout) (m : ℕ) (part : List ℕ) (place : ℕ) → chain (contentTests4 l m part) ≡ stop (refusal.Form place) → ⊥
+fours-not-form l m part place e = by (chain-exactly-if (contentTests4 l m part) .refuses (refusal.Form place) .0 e)
+  where
+    by : RefusedWith (contentTests4 l m part) (refusal.Form place) → ⊥
+    by (inl (a, q)) = let z : _≡_ {A = ℕ} 0 1 = cc in omega arith
+    by (inr (a, inl (b, q))) = let z : _≡_ {A = ℕ} 0 1 = cc in omega arith
+    by (inr (a, inr (b, inl (c, q)))) = let z : _≡_ {A = ℕ} 0 1 = cc in omega arith
+    by (inr (a, inr (b, inr (c, q)))) = q
 
-  -- what is known of a record whose content is fine
-  pub record Fine : Type 0 where
-    pub legal : qpIn part ≤ highest
-    pub modes : (b : ℕ) → b < 16 → modeHolds l m part b ≡ true
-    pub ranges : (b : ℕ) → b < 16 → rangeHolds part b ≡ true
+pub content-not-form : (l : Layout) (m : ℕ) (part : List ℕ) (place : ℕ) → chain (contentTests l m part) ≡ stop (refusal.Form place) → ⊥
+content-not-form l m part place e = by (isWhole part) refl
+  where
+    by : (b : Bool) → isWhole part ≡ b → ⊥
+    by true q = whole-not-form l m part place (sym (ap chain (tests-whole l m part q)) ∙ e)
+    by false q = fours-not-form l m part place (sym (ap chain (tests-fours l m part q)) ∙ e)
 
-  pub fine : chain (contentTests l m part) ≡ pass → Fine
-  unfolding firstMode firstRange
-  fine e =
-      let a = chain-exactly-if (contentTests l m part) .passes .0 e in
-      let p : firstMode l m part ≡ 16 = eqb-true (firstMode l m part) 16 (a .1 .0) in
-      let q : firstRange part ≡ 16 = eqb-true (firstRange part) 16 (a .1 .1 .0) in
-      record {
-        legal = leb-true (qpIn part) highest (a .0);
-        modes = λ b h. not-false (modeHolds l m part b) (first-before (λ b. not (modeHolds l m part b)) 16 b (omega (arith, p)));
-        ranges = λ b h. not-false (rangeHolds part b) (first-before (λ b. not (rangeHolds part b)) 16 b (omega (arith, q)));
-      }
+-- ---- the coder's record
+
+module _ (l : Layout) (qp : ℕ) (legal : qp ≤ highest) (original : List ℕ) (bytes : Bytes original) (m : ℕ) (before : List ℕ) (small : Bytes before) where
+  abbrev four : List ℕ
+  four = recordFrom4 l qp original m before
+
+  abbrev sixteen : List ℕ
+  sixteen = recordFrom16 l qp original m before
+
+  pub content-own : chain (contentTests l m (recordFrom l qp original m before)) ≡ pass
+  unfolding recordFrom
+  content-own = by (together l qp original m before)
+    where
+      by : (b : Bool) → chain (contentTests l m (cond b sixteen four)) ≡ pass
+      by true = ap chain (tests-whole l m sixteen (is-whole-from16 l qp original m before)) ∙ content-own16 l qp original m before legal bytes small
+      by false = ap chain (tests-fours l m four (not-whole-from4 l qp original m before)) ∙ content-own4 l qp legal original bytes m before small
+
+  pub step-again : rebuiltStep l m (recordFrom l qp original m before) before ≡ codedStep l qp original m before
+  unfolding recordFrom codedStep
+  step-again = by (together l qp original m before)
+    where
+      by : (b : Bool) → rebuiltStep l m (cond b sixteen four) before ≡ cond b (codedStep16 l qp original m before) (codedStep4 l qp original m before)
+      by true = rebuilt-whole l m sixteen before (is-whole-from16 l qp original m before) ∙ step-again16 l qp original m before legal bytes small
+      by false = rebuilt-fours l m four before (not-whole-from4 l qp original m before) ∙ step-again4 l qp legal original bytes m before small

@@ -1,9 +1,7 @@
-pub mod CodedRecord
-pub mod Coding
+pub mod Candidates
 pub mod Contents
 pub mod Looks
 pub mod Own
-pub mod Rebuilding
 pub mod RecordFrom
+pub mod Sixteen
 pub mod Unique
-pub mod Witness

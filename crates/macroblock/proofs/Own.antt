@@ -1,40 +1,31 @@
 -- A record carries its own macroblock: of two planes that agree in macroblock m, from one rebuilt plane before it.
 --     step-own, record-own     its step and its record are the same
 -- Assumes nothing.
-use mathlib.Core.Path.{_≡_, sym, ap, _∙_}
+use mathlib.Core.Path.{_≡_}
+use mathlib.Core.Bool.{cond}
 use mathlib.Core.List.{List}
-use Prim.Native.Nat.{ℕ, _<_, _≤_}
-use native.Mathlib.Omega.{arith}
-use Rattle.block.specs.Block.{codedMode, codedLevels, codedSamples}
+use Prim.Native.Nat.{ℕ, _<_}
+use lib.Dec.{ltb}
 use Rattle.picture.specs.declared.Layout.{Layout}
-use Rattle.picture.specs.Order.{blockCount}
-use Rattle.picture.specs.Plane.{blockOf, gathered, firstTurns}
-use Rattle.picture.proofs.Start.{by-one, turns-follow}
-use Rattle.macroblock.specs.Code.{roundOf, modeFrom, levelsFrom, samplesFrom, seen, recordFrom, codedStep}
-use Rattle.macroblock.proofs.RecordFrom.{same-record}
+use Rattle.picture.specs.Plane.{blockOf}
+use Rattle.picture.specs.Whole.{wholeOf, gatheredRound}
+use Rattle.picture.proofs.Whole.{same-whole}
+use Rattle.macroblock4.proofs.Own.{step-own4, sads-own4, record-own4}
+use Rattle.macroblock16.proofs.Own.{step-own16, sad-own16, record-own16}
+use Rattle.macroblock.specs.Code.{recordFrom, codedStep}
+use Rattle.macroblock.proofs.RecordFrom.{together}
 
 module _ (l : Layout) (qp : ℕ) (p q : List ℕ) (m : ℕ) (same : (b : ℕ) → b < 16 → blockOf 4 l m b p ≡ blockOf 4 l m b q) (before : List ℕ) where
-  turns-own : (n : ℕ) → n ≤ 16 → firstTurns 4 (samplesFrom l qp p) l m n before ≡ firstTurns 4 (samplesFrom l qp q) l m n before
-  unfolding samplesFrom
-  turns-own n h =
-      turns-follow 4 (samplesFrom l qp p) (samplesFrom l qp q) l m n before
-      (λ j b k is. ap (codedSamples qp (roundOf l m b (gathered 4 l m b (firstTurns 4 (samplesFrom l qp q) l m j before)))) (same b (omega (arith, by-one j ∙ sym is))))
+  whole-same : wholeOf 16 l m p ≡ wholeOf 16 l m q
+  whole-same = same-whole l m p q same
+
+  chooses-own : together l qp p m before ≡ together l qp q m before
+  chooses-own = λ i. ltb (sad-own16 l p q m whole-same (gatheredRound 16 l m before) i) (sads-own4 l qp p q m same before i)
 
   pub step-own : codedStep l qp p m before ≡ codedStep l qp q m before
-  unfolding codedStep blockCount
-  step-own = turns-own 16 (omega arith)
-
-  seen-own : (b : ℕ) → b < 16 → seen l qp p m before b ≡ seen l qp q m before b
-  unfolding seen
-  seen-own b h = ap (gathered 4 l m b) (turns-own b (omega arith))
-
-  mode-own : (b : ℕ) → b < 16 → modeFrom l p m b (seen l qp p m before b) ≡ modeFrom l q m b (seen l qp q m before b)
-  unfolding modeFrom
-  mode-own b h = λ i. codedMode (roundOf l m b (seen-own b h i)) (same b h i)
-
-  levels-own : (b : ℕ) → b < 16 → levelsFrom l qp p m b (seen l qp p m before b) ≡ levelsFrom l qp q m b (seen l qp q m before b)
-  unfolding levelsFrom
-  levels-own b h = λ i. codedLevels qp (roundOf l m b (seen-own b h i)) (same b h i)
+  unfolding codedStep
+  step-own = λ i. cond (chooses-own i) (step-own16 l p q m whole-same qp before i) (step-own4 l qp p q m same before i)
 
   pub record-own : recordFrom l qp p m before ≡ recordFrom l qp q m before
-  record-own = same-record l qp m p q before before mode-own levels-own
+  unfolding recordFrom
+  record-own = λ i. cond (chooses-own i) (record-own16 l p q m whole-same qp before i) (record-own4 l qp p q m same before i)

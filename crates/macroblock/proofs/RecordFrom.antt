@@ -1,46 +1,38 @@
--- The record of a coded macroblock: sixteen levels for each block, and so a record of the 4x4 kind.
---     length-levels-from, length-blocks-from     sixteen levels for each block, so 256 for a macroblock
---     length-record-from, own-record-from        the record's length; its form is fine
---     same-record                                records of the same modes and levels, block by block
+-- The record of a coded macroblock, of whichever kind.
+--     either                                     what holds of both candidates holds of the one that is taken
+--     length-record-from, own-record-from        it has at most 527 bytes; its form is fine
 -- Assumes nothing.
-use mathlib.Core.Path.{_≡_}
+use mathlib.Core.Bool.{Bool, true, false, cond}
 use mathlib.Core.List.{List}
-use Prim.Native.Nat.{ℕ, _<_}
+use Prim.Native.Nat.{ℕ, _≤_}
+use native.Mathlib.Omega.{arith}
+use lib.Dec.{ltb}
 use lib.ListN.{length}
-use Rattle.lists.proofs.Parts.{length-parts, parts-same}
-use Rattle.lists.proofs.Tab.{tab-same}
-use Rattle.residual.proofs.Order.{length-zigzag}
 use Rattle.record.specs.Kinds.{inFours, lengthOf}
-use Rattle.record.specs.Records.{recordOf}
-use Rattle.record.proofs.Back.{Own, length-record, own-record}
+use Rattle.record.proofs.Back.{Own}
 use Rattle.picture.specs.declared.Layout.{Layout}
-use Rattle.macroblock.specs.Code.{modeFrom, levelsFrom, seen, modesFrom, blocksFrom, recordFrom}
+use Rattle.picture.specs.Whole.{gatheredRound}
+use Rattle.macroblock4.specs.Code.{sadsFrom}
+use Rattle.macroblock4.proofs.RecordFrom.{length-record-from4, own-record-from4}
+use Rattle.macroblock16.specs.Code.{sadFrom16}
+use Rattle.macroblock16.proofs.CodedRecord.{length-record-from16, own-record-from16}
+use Rattle.macroblock.specs.Code.{recordFrom}
 
-module _ (l : Layout) (qp : ℕ) (original : List ℕ) where
-  pub length-levels-from : (m b : ℕ) (neighbours : List ℕ) → length (levelsFrom l qp original m b neighbours) ≡ 16
-  unfolding levelsFrom
-  length-levels-from m b neighbours = length-zigzag _
+pub either : {A : Type 0} (P : A → Type 0) (b : Bool) {x y : A} → P x → P y → P (cond b x y)
+either P true p q = p
+either P false p q = q
 
-  pub length-blocks-from : (m : ℕ) (before : List ℕ) → length (blocksFrom l qp original m before) ≡ inFours .levels
-  length-blocks-from m before =
-      length-parts 16 (λ b. levelsFrom l qp original m b (seen l qp original m before b)) 16
-      (λ b h. length-levels-from m b (seen l qp original m before b))
+module _ (l : Layout) (qp : ℕ) (original : List ℕ) (m : ℕ) (before : List ℕ) where
+  -- whether 16x16 is taken
+  abbrev pub together : Bool
+  together = ltb (sadFrom16 l original m (gatheredRound 16 l m before)) (sadsFrom l qp original m before)
 
-  pub length-record-from : (m : ℕ) (before : List ℕ) → length (recordFrom l qp original m before) ≡ lengthOf inFours
+  pub length-record-from : length (recordFrom l qp original m before) ≤ lengthOf inFours
   unfolding recordFrom
-  length-record-from m before = length-record m qp (modesFrom l qp original m before) (blocksFrom l qp original m before) (length-blocks-from m before)
+  length-record-from =
+      either (λ (r : List ℕ). length r ≤ lengthOf inFours) together
+      (omega (arith, length-record-from16 l qp original m before)) (omega (arith, length-record-from4 l qp original m before))
 
-  pub own-record-from : (m : ℕ) (before : List ℕ) → Own m (recordFrom l qp original m before)
+  pub own-record-from : Own m (recordFrom l qp original m before)
   unfolding recordFrom
-  own-record-from m before = own-record m qp (modesFrom l qp original m before) (blocksFrom l qp original m before) (length-blocks-from m before)
-
--- of two planes, from two rebuilt planes before the macroblock
-pub same-record : (l : Layout) (qp m : ℕ) (p q before after : List ℕ)
-    → ((b : ℕ) → b < 16 → modeFrom l p m b (seen l qp p m before b) ≡ modeFrom l q m b (seen l qp q m after b))
-    → ((b : ℕ) → b < 16 → levelsFrom l qp p m b (seen l qp p m before b) ≡ levelsFrom l qp q m b (seen l qp q m after b))
-    → recordFrom l qp p m before ≡ recordFrom l qp q m after
-unfolding recordFrom
-same-record l qp m p q before after same-modes same-levels =
-    let modes : modesFrom l qp p m before ≡ modesFrom l qp q m after = tab-same 16 _ _ same-modes in
-    let blocks : blocksFrom l qp p m before ≡ blocksFrom l qp q m after = parts-same 16 _ _ same-levels in
-    λ i. recordOf m qp (modes i) (blocks i)
+  own-record-from = either (Own m) together (own-record-from16 l qp original m before) (own-record-from4 l qp original m before)

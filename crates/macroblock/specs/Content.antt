@@ -1,45 +1,20 @@
--- The content of a macroblock's record: "by record QUANTIZER, all modes, then ranges, place = 16*number+block (block 0 for QUANTIZER)"
--- (01, "What is sent back, and in which order it is tested"). Assumes nothing.
-use mathlib.Core.Bool.{Bool, not}
-use mathlib.Core.List.{List, [], _∷_}
-use Prim.Native.Nat.{ℕ, _+_, _*_}
-use lib.Dec.{eqb, leb}
-use lib.IntN.{ℤ}
-use Rattle.lists.specs.Chain.{Test, test}
-use Rattle.lists.specs.First.{first}
+-- The content of a macroblock's record, by its kind (01, "What is sent back, and in which order it is tested"; 02, Req 01). Assumes nothing.
+use mathlib.Core.Bool.{cond}
+use mathlib.Core.List.{List}
+use Prim.Native.Nat.{ℕ}
+use Rattle.lists.specs.Chain.{Test}
 use Rattle.refusal.specs.declared.Refusal.{Refusal}
-use Rattle.refusal.specs.declared.Refusal.the-variants as refusal
-use Rattle.quantizer.specs.Range.{highest}
-use Rattle.intra4.specs.Rules.{permitted}
-use Rattle.residual.specs.Entry.{firstWide}
-use Rattle.residual.specs.Order.{inZigzag}
-use Rattle.residual.specs.Rebuild.{rescaledOf}
-use Rattle.record.specs.Records.{qpIn, modeIn, levelsIn}
+use Rattle.record.specs.Kinds.{inFours, inWhole}
+use Rattle.record.specs.Records.{isWhole}
+use Rattle.record.specs.declared.Kind.{Kind}
 use Rattle.picture.specs.declared.Layout.{Layout}
-use Rattle.picture.specs.Presence.{flagsOf}
+use Rattle.macroblock4.specs.Content.{contentTests4}
+use Rattle.macroblock16.specs.Content.{contentTests16}
 
--- MODE: "number above 8, or what it needs is missing"
-unfoldable pub modeHolds : Layout → (m : ℕ) → List ℕ → (b : ℕ) → Bool
-modeHolds l m part b = permitted (flagsOf 4 l m b) (modeIn b part)
+-- the kind that a record's mark says
+abbrev pub kindBy : List ℕ → Kind
+kindBy part = cond (isWhole part) inWhole inFours
 
--- the rescaled numbers of block b, in raster order; "each record has its own" QP
-unfoldable pub rescaledIn : List ℕ → (b : ℕ) → List ℤ
-rescaledIn part b = rescaledOf (qpIn part) (levelsIn b part)
-
--- RANGE: no rescaled number of block b lies outside -32768..32767
-unfoldable pub rangeHolds : List ℕ → (b : ℕ) → Bool
-rangeHolds part b = eqb (firstWide (inZigzag (rescaledIn part b))) 16
-
--- the first block that offends, and 16 where none does
-unfoldable pub firstMode : Layout → (m : ℕ) → List ℕ → ℕ
-firstMode l m part = first 16 (λ b. not (modeHolds l m part b))
-
-unfoldable pub firstRange : List ℕ → ℕ
-firstRange part = first 16 (λ b. not (rangeHolds part b))
-
--- the tests of record m, in their order
-abbrev pub contentTests : Layout → (m : ℕ) → List ℕ → List (Test Refusal)
-contentTests l m part =
-    test (leb (qpIn part) highest) (refusal.Quantizer (16 * m))
-    ∷ test (eqb (firstMode l m part) 16) (refusal.Mode (16 * m + firstMode l m part))
-    ∷ test (eqb (firstRange part) 16) (refusal.Range (16 * m + firstRange part)) ∷ []
+-- its tests, in their order
+unfoldable pub contentTests : Layout → (m : ℕ) → (part : List ℕ) → List (Test Refusal)
+contentTests l m part = cond (isWhole part) (contentTests16 l m part) (contentTests4 l m part)

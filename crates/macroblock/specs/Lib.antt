@@ -1,3 +1,4 @@
 pub mod Code
 pub mod Content
 pub mod Rebuild
+pub mod Winner

@@ -1,20 +1,12 @@
--- A macroblock rebuilt by its record: "sample = prediction + residual, clipped" (01, "Transform, quantizer, rescaling"), block after block in
--- the order of "blocks 0-15" (01, "Plane and record file"). Assumes nothing.
+-- A macroblock rebuilt by its record, of either kind (01, "Plane and record file"; 02, Req 01). Assumes nothing.
+use mathlib.Core.Bool.{cond}
 use mathlib.Core.List.{List}
 use Prim.Native.Nat.{ℕ}
-use Rattle.intra4.specs.Samples.{mask}
-use Rattle.intra4.specs.Rules as rules
-use Rattle.residual.specs.Rebuild.{rebuiltSamples}
-use Rattle.record.specs.Records.{modeIn}
+use Rattle.record.specs.Records.{isWhole}
 use Rattle.picture.specs.declared.Layout.{Layout}
-use Rattle.picture.specs.Plane.{turns}
-use Rattle.picture.specs.Presence.{flagsOf}
-use Rattle.macroblock.specs.Content.{rescaledIn}
+use Rattle.macroblock4.specs.Rebuild.{rebuiltStep4}
+use Rattle.macroblock16.specs.Rebuild.{rebuiltStep16}
 
--- the samples of block b of macroblock m, of its record and its neighbours
-unfoldable pub blockFrom : Layout → (part : List ℕ) → (m b : ℕ) → (neighbours : List ℕ) → List ℕ
-blockFrom l part m b neighbours = rebuiltSamples (rules.samplesOf (rules.predicted (mask neighbours (flagsOf 4 l m b)) (modeIn b part))) (rescaledIn part b)
-
--- the step of macroblock m by its record: a plane before it, and after the turns of its sixteen blocks
+-- the step of macroblock m by its record
 unfoldable pub rebuiltStep : Layout → (m : ℕ) → (part : List ℕ) → (plane : List ℕ) → List ℕ
-rebuiltStep l m part plane = turns 4 (blockFrom l part) l m plane
+rebuiltStep l m part plane = cond (isWhole part) (rebuiltStep16 l m part plane) (rebuiltStep4 l m part plane)

@@ -1,60 +1,113 @@
 // What a picture asks of one macroblock: whether its record's content is fine, its step by that record, and its record and step when coded.
 ghost use mathlib.Core.Path.{_≡_};
-ghost use Prim.Native.Nat.{_+_, _<_, _≤_};
-ghost use lib.ListN.{length};
+ghost use Prim.Native.Nat.{ℕ, _<_, _≤_};
+ghost use lib.IntN.{pos};
+ghost use lib.ListN.{length, getD};
+ghost use mir.Syntax.{w16};
+ghost use mir.Val.{SFits};
 ghost use Rattle.lists.specs.Chain.{chain, pass};
 ghost use Rattle.lists.specs.Parts.{over};
 ghost use Rattle.refusal.specs.Number.{said};
 ghost use Rattle.quantizer.specs.Range.{highest};
-ghost use Rattle.record.specs.Kinds.{inFours, lengthOf};
+ghost use Rattle.record.specs.Kinds.{inFours, inWhole, lengthOf};
+ghost use Rattle.record.specs.Records.{recordOf, recordWhole};
 ghost use Rattle.picture.specs.Order.{Among};
 ghost use Rattle.picture.specs.Plane.{planeLength};
 ghost use Rattle.macroblock.specs.Code.{recordFrom, codedStep};
-ghost use Rattle.macroblock.specs.Content.{contentTests};
+ghost use Rattle.macroblock.specs.Content.{kindBy, contentTests};
 ghost use Rattle.macroblock.specs.Rebuild.{rebuiltStep};
-use crate::code;
-use crate::content;
-use crate::rebuild;
+ghost use Rattle.macroblock.specs.Winner.{taken, winning};
 use picture::Layout;
-use quantizer::Built;
 use quantizer::Quantizer;
 use refusal::Answer;
-use refusal::Refusal;
 
-// The content of macroblock m's record: QUANTIZER, all modes, then ranges.
+// The content of macroblock m's record.
 pub fn test_macroblock(layout: Layout, m: usize, part: &[u8]) -> Answer
-    requires { ⌜ (Among layout m 0) × (length (now part) ≡ lengthOf inFours) ⌝ }
+    requires { ⌜ (Among layout m 0) × (length (now part) ≡ lengthOf (kindBy (now part))) ⌝ }
     ensures { λ r. ⌜ said r ≡ chain (contentTests layout m (now (part .entry))) ⌝ }
 {
-    let Built::Legal(quantizer) = Quantizer::new(record::inner::qp(part)) else {
-        return Answer::Refused(Refusal::Quantizer(16 * m));
-    };
-    let mode = content::first_mode(layout, m, part);
-    if mode < 16 {
-        return Answer::Refused(Refusal::Mode(16 * m + mode));
+    if record::inner::is_whole(part) {
+        macroblock16::inner::test_macroblock16(layout, m, part)
+    } else {
+        macroblock4::inner::test_macroblock4(layout, m, part)
     }
-    let range = content::first_range(quantizer, part);
-    if range < 16 {
-        return Answer::Refused(Refusal::Range(16 * m + range));
-    }
-    Answer::Done
 }
 
-// The sixteen blocks of macroblock m, of a record whose content is fine.
+// Macroblock m by a record whose content is fine.
 pub fn rebuild_macroblock(layout: Layout, m: usize, part: &[u8], plane: &mut [u8])
-    requires { ⌜ (Among layout m 0) × (length (now part) ≡ lengthOf inFours) × (length (now plane) ≡ planeLength 16 layout) ⌝ }
+    requires { ⌜ (Among layout m 0) × (length (now part) ≡ lengthOf (kindBy (now part))) × (length (now plane) ≡ planeLength 16 layout) ⌝ }
     requires { ⌜ chain (contentTests layout m (now part)) ≡ pass ⌝ }
     ensures { λ _. ⌜ now (plane .exit) ≡ rebuiltStep layout m (now (part .entry)) (now (plane .entry)) ⌝ }
 {
-    let Built::Legal(quantizer) = Quantizer::new(record::inner::qp(part)) else {
-        return;
-    };
-    for b in 0usize..16 {
-        rebuild::rebuild_turn(layout, m, b, quantizer, part, plane);
+    if record::inner::is_whole(part) {
+        macroblock16::inner::rebuild_macroblock16(layout, m, part, plane);
+    } else {
+        macroblock4::inner::rebuild_macroblock4(layout, m, part, plane);
     }
 }
 
-// Macroblock m into a record at the front of what is lent; answers how many bytes that were.
+// The part of the winning area, uncopied: that of 16x16 exactly if its SAD is below the sum of the sixteen others.
+pub(crate) fn winner<'a>(
+    four: &'a [i32],
+    sixteen: &'a [i32],
+    apart: u64,
+    together: u64,
+) -> &'a [i32]
+    requires { ⌜ (256 ≤ length (now four)) × (256 ≤ length (now sixteen)) ⌝ }
+    ensures { λ r. ⌜ now r ≡ winning apart together (now (four .entry)) (now (sixteen .entry)) ⌝ }
+    ensures { λ r. ⌜ r .ptr ≡ taken apart together (four .entry .ptr) (sixteen .entry .ptr) ⌝ }
+{
+    if together < apart {
+        &sixteen[..256]
+    } else {
+        &four[..256]
+    }
+}
+
+// A record of 16x16 over the front of what is lent; answers how many bytes that were.
+fn whole_over(m: usize, quantizer: Quantizer, mode: u8, levels: &[i32], file: &mut [u8]) -> usize
+    requires { ⌜ (m < 16384) × (lengthOf inFours ≤ length (now file)) ⌝ }
+    requires { ⌜ (length (now levels) ≡ inWhole .levels) × ((k : ℕ) → SFits w16 (getD (now levels) k (pos 0))) ⌝ }
+    ensures { λ r. ⌜ r ≡ lengthOf inWhole ⌝ }
+    ensures { λ r. ⌜ now (file .exit) ≡ over (recordWhole m (quantizer .qp) mode (now (levels .entry))) (now (file .entry)) ⌝ }
+{
+    let long = record::inner::whole_length();
+    record::inner::write_whole(
+        m as u16,
+        quantizer.number(),
+        mode,
+        levels,
+        &mut file[0..long],
+    );
+    long
+}
+
+// A record of 4x4 blocks, likewise.
+fn fours_over(
+    m: usize,
+    quantizer: Quantizer,
+    modes: [u8; 16],
+    levels: &[i32],
+    file: &mut [u8],
+) -> usize
+    requires { ⌜ (m < 16384) × (lengthOf inFours ≤ length (now file)) × ((k : ℕ) → getD modes k 0 < 16) ⌝ }
+    requires { ⌜ (length (now levels) ≡ inFours .levels) × ((k : ℕ) → SFits w16 (getD (now levels) k (pos 0))) ⌝ }
+    ensures { λ r. ⌜ r ≡ lengthOf inFours ⌝ }
+    ensures { λ r. ⌜ now (file .exit) ≡ over (recordOf m (quantizer .qp) modes (now (levels .entry))) (now (file .entry)) ⌝ }
+{
+    let long = record::inner::fours_length();
+    record::inner::write_fours(
+        m as u16,
+        quantizer.number(),
+        modes,
+        levels,
+        &mut file[0..long],
+    );
+    long
+}
+
+// Macroblock m into a record at the front of what is lent; answers how many bytes that were. Both candidates are coded into an area of
+// levels each: 16x16 first, which only reads the rebuilt plane, then 4x4, whose samples stay there unless 16x16 wins.
 pub fn code_macroblock(
     layout: Layout,
     m: usize,
@@ -69,7 +122,33 @@ pub fn code_macroblock(
     ensures { λ r. ⌜ now (file .exit) ≡ over (recordFrom layout (quantizer .qp) (now (plane .entry)) m (now (rebuilt .entry))) (now (file .entry)) ⌝ }
     ensures { λ r. ⌜ now (rebuilt .exit) ≡ codedStep layout (quantizer .qp) (now (plane .entry)) m (now (rebuilt .entry)) ⌝ }
 {
-    let long = record::inner::fours_length();
-    code::code_record(layout, m, quantizer, plane, &mut file[0..long], rebuilt);
-    long
+    let mut four = [0i32; 256];
+    let mut sixteen = [0i32; 256];
+    let mut prediction = [0u8; 256];
+    let whole = macroblock16::inner::code_candidate16(
+        layout,
+        m,
+        quantizer,
+        plane,
+        rebuilt,
+        &mut sixteen,
+        &mut prediction,
+    );
+    let fours = macroblock4::inner::code_candidate4(
+        layout,
+        m,
+        quantizer,
+        plane,
+        &mut four,
+        rebuilt,
+    );
+    let together = whole.cost as u64;
+    let levels = winner(&four, &sixteen, fours.sad, together);
+    if together < fours.sad {
+        macroblock16::inner::store_macroblock16(layout, m, quantizer, &prediction, levels, rebuilt);
+        whole_over(m, quantizer, whole.mode, levels, file)
+    } else {
+        let modes = fours.modes;
+        fours_over(m, quantizer, modes, levels, file)
+    }
 }

@@ -1,6 +1,3 @@
-// A macroblock's record of sixteen 4x4 blocks: its content tested, its samples rebuilt, and a macroblock coded into it
-// (01, "Plane and record file").
-mod code;
-mod content;
+// A macroblock of either kind: its record tested, its samples rebuilt, and a macroblock coded into the kind that costs less
+// (01, "Plane and record file"; 02, Req 01).
 pub mod inner;
-mod rebuild;

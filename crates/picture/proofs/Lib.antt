@@ -6,7 +6,10 @@ pub mod Macroblocks
 pub mod Owner
 pub mod Plane
 pub mod Presence
+pub mod Round
+pub mod Rows
 pub mod Start
 pub mod Steps
 pub mod Unique
+pub mod Whole
 pub mod Witness

@@ -1,4 +1,5 @@
 -- Presence is rooted in macroblocks.
+--     InsidePlane, inside-plane     what it means that a sample lies inside
 --     present-by           a sample inside the picture is present if its macroblock is, or, in the own macroblock, if its 4x4 block comes earlier
 --     present-outside      the same for a sample of another macroblock
 --     present-first        and for the block of 16 by 16: exactly if its macroblock is
@@ -22,20 +23,24 @@ use Rattle.lists.proofs.Every.{both-true, same-test}
 use Rattle.picture.specs.declared.Layout.{Layout}
 use Rattle.picture.specs.Order.{Starts, blockIn, columnIn, rowIn, blockColumn, blockRow, orderOf, orderAt, macroblockAt}
 use Rattle.picture.specs.Plane.{stride}
-use Rattle.picture.specs.Presence.{insidePicture, macroblockPresent, touches, present, neighbourColumn, neighbourRow, presentAt}
+use Rattle.picture.specs.Presence.{insidePlane, insidePicture, macroblockPresent, touches, present, neighbourColumn, neighbourRow, presentAt}
 use Rattle.picture.proofs.Blocks.{stands}
 use Rattle.picture.proofs.Owner.{ownerOf, macroblockOwning, order-lt, order-macroblock}
 use Rattle.picture.proofs.Presence.{ltb-shift, present-is}
 
--- what it means that a sample lies inside
-inside-is : (l : Layout) (X Y : ℕ) → insidePicture l X Y ≡ true → (X - 1 < 16 * l .width) × (Y - 1 < 16 * l .height)
-inside-is l X Y e =
-    let a = both-true (ltb 0 X && leb X (16 * l .width)) (ltb 0 Y && leb Y (16 * l .height)) e in
-    let x = both-true (ltb 0 X) (leb X (16 * l .width)) (a .0) in
-    let y = both-true (ltb 0 Y) (leb Y (16 * l .height)) (a .1) in (
-      omega (arith, ltb-true 0 X (x .0), leb-true X (16 * l .width) (x .1)),
-      omega (arith, ltb-true 0 Y (y .0), leb-true Y (16 * l .height) (y .1)),
-    )
+-- what it means that a sample lies inside, from a margin of one
+pub record InsidePlane (s : ℕ) (l : Layout) (X Y : ℕ) : Type 0 where
+  pub left : 0 < X
+  pub right : X ≤ s * l .width
+  pub up : 0 < Y
+  pub down : Y ≤ s * l .height
+
+pub inside-plane : (s : ℕ) (l : Layout) (X Y : ℕ) → insidePlane s l X Y ≡ true → InsidePlane s l X Y
+inside-plane s l X Y e =
+    let a = both-true (ltb 0 X && leb X (s * l .width)) (ltb 0 Y && leb Y (s * l .height)) e in
+    let x = both-true (ltb 0 X) (leb X (s * l .width)) (a .0) in
+    let y = both-true (ltb 0 Y) (leb Y (s * l .height)) (a .1) in
+    record { left = ltb-true _ _ (x .0); right = leb-true _ _ (x .1); up = ltb-true _ _ (y .0); down = leb-true _ _ (y .1) }
 
 earlier : (l : Layout) (m b x y : ℕ) → b < 16 → x < 16 * l .width → y < 16 * l .height
     → ltb (orderAt l x y) (orderOf m b) ≡ cond (eqb (macroblockAt l x y) m) (ltb (blockIn (x / 4 % 4) (y / 4 % 4)) b) (macroblockPresent l m (macroblockAt l x y))
@@ -69,7 +74,9 @@ present-by l m b X Y hb = by-case (insidePicture l X Y) refl
         → (t && ltb (orderAt l (X - 1) (Y - 1)) (orderOf m b))
         ≡ (t && cond (eqb (macroblockAt l (X - 1) (Y - 1)) m) (ltb (blockIn ((X - 1) / 4 % 4) ((Y - 1) / 4 % 4)) b) (macroblockPresent l m (macroblockAt l (X - 1) (Y - 1))))
     by-case false e = refl
-    by-case true e = let i = inside-is l X Y e in earlier l m b (X - 1) (Y - 1) hb (i .0) (i .1)
+    by-case true e =
+        let i = inside-plane 16 l X Y e in
+        earlier l m b (X - 1) (Y - 1) hb (omega (arith, i .left, i .right)) (omega (arith, i .up, i .down))
 
 pub present-outside : (l : Layout) (m b X Y : ℕ) → b < 16 → insidePicture l X Y ≡ true → (macroblockAt l (X - 1) (Y - 1) ≡ m → ⊥)
     → present l (orderOf m b) X Y ≡ macroblockPresent l m (macroblockAt l (X - 1) (Y - 1))

@@ -2,11 +2,12 @@
 -- A macroblock's step keeps the length, changes its own samples only, and makes them of samples of the macroblocks beside it that are present.
 --     macroblock-lt                each sample is of one of the picture's macroblocks
 --     MacroblockStep, LooksFrom    such a step; what is made of a plane by what macroblock m may see
+--     looks-after                  what a macroblock makes by what it may see is the same after a step of it
 --     choice-step                  a choice between two steps, by a test that looks only there, is a step
 --     first-steps, steps-agree     the first macroblocks: macroblock k sees the same from any two planes
 --     picture-start-has-no-value, made-start-has-no-value     what stood in the plane at the start changes no sample, and no record
 -- Assumes nothing.
-use mathlib.Core.Path.{_≡_}
+use mathlib.Core.Path.{_≡_, _∙_}
 use mathlib.Core.Bool.{Bool, cond}
 use mathlib.Core.List.{List}
 use mathlib.Core.Logic.{inr}
@@ -49,6 +50,16 @@ LooksFrom s l m v = Looks 0 (planeLength s l) (SeenFrom s l m) v
 pub choice-step : (s : ℕ) (l : Layout) (m : ℕ) {f g : List ℕ → List ℕ} (c : List ℕ → Bool) → LooksFrom s l m c
     → MacroblockStep s l m f → MacroblockStep s l m g → MacroblockStep s l m (λ p. cond (c p) (f p) (g p))
 choice-step s l m c looks f-step g-step = step-choice 0 (planeLength s l) (macroblockOwning s l) c looks f-step g-step
+
+-- a macroblock's step changes nothing that it may see
+pub looks-after : (s : ℕ) (l : Layout) (m : ℕ) {B : Type 0} (v : List ℕ → B) {f : List ℕ → List ℕ} → LooksFrom s l m v → MacroblockStep s l m f
+    → (p : List ℕ) → length p ≡ planeLength s l → v (f p) ≡ v p
+looks-after s l m v {f} looks step p long =
+    looks (f p) p (record {
+      this = step .long p ∙ long;
+      that = long;
+      agree = λ i h seen. step .off p i h (λ own. omega (arith, own .0, seen-before s l m i seen));
+    })
 
 -- ---- the picture, by any steps of its macroblocks
 

@@ -58,18 +58,26 @@ Starts n b = T (starts n b)
 abbrev pub countOf : Layout → ℕ
 countOf l = l .width * l .height
 
--- column and row of the first sample of block b of macroblock m: macroblocks of 16x16 are "numbered in raster order from 0"
+-- column and row of the first sample of macroblock m, in a plane where a macroblock has s by s samples, 16 in luma and 8 in chroma:
+-- macroblocks are "numbered in raster order from 0"
+abbrev pub wholeColumn : (s : ℕ) → Layout → (m : ℕ) → ℕ
+wholeColumn s l m = s * (m % l .width)
+
+abbrev pub wholeRow : (s : ℕ) → Layout → (m : ℕ) → ℕ
+wholeRow s l m = s * (m / l .width)
+
+-- and of its block b, in luma
 unfoldable pub blockColumn : Layout → (m b : ℕ) → ℕ
-blockColumn l m b = 16 * (m % l .width) + 4 * columnIn b
+blockColumn l m b = wholeColumn 16 l m + 4 * columnIn b
 
 unfoldable pub blockRow : Layout → (m b : ℕ) → ℕ
-blockRow l m b = 16 * (m / l .width) + 4 * rowIn b
+blockRow l m b = wholeRow 16 l m + 4 * rowIn b
 
 -- "Macroblocks go in raster order": the number of block b of macroblock m in the coding order
 abbrev pub orderOf : (m b : ℕ) → ℕ
 orderOf m b = 16 * m + b
 
--- the macroblock that holds the sample in column x of row y, in a plane where a macroblock has s by s samples: 16 in luma, 8 in chroma
+-- the macroblock that holds the sample in column x of row y, in such a plane
 abbrev pub macroblockIn : (s : ℕ) → Layout → (x y : ℕ) → ℕ
 macroblockIn s l x y = y / s * l .width + x / s
 

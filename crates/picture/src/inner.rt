@@ -3,11 +3,13 @@ ghost use mathlib.Core.Bool.{cond};
 ghost use mathlib.Core.Path.{_≡_};
 ghost use Prim.Native.Nat.{_+_, _*_, _-_, _/_, _%_, _<_, _≤_};
 ghost use lib.ListN.{length, getD};
+ghost use Rattle.lists.specs.Stores.{stores};
 ghost use Rattle.lists.specs.Tab.{tab};
 ghost use Rattle.picture.specs.Order.{Among, columnIn, rowIn, blockColumn, blockRow};
 ghost use Rattle.picture.specs.Plane.{layoutOf, stride, planeLength, blockOf, withBlock, gathered};
 ghost use Rattle.picture.specs.Presence.{presentAt, flagsOf};
-ghost use Rattle.picture.specs.Reach.{Behind, early};
+ghost use Rattle.picture.specs.Reach.{Behind, Reaches, early};
+ghost use Rattle.picture.specs.Whole.{wholeColumn, wholeRow, wholeOf, withWhole, flagsRound, gatheredRound};
 use crate::Layout;
 
 // The picture of a size, as one slice.
@@ -22,7 +24,7 @@ pub fn one_slice(width: usize, height: usize) -> Layout
 }
 
 // The column of block b in its macroblock, in blocks.
-fn column_inside(b: usize) -> usize
+pub fn column_inside(b: usize) -> usize
     requires { ⌜ b < 16 ⌝ }
     ensures { λ r. ⌜ (r ≡ columnIn b) × (r < 4) ⌝ }
 {
@@ -30,7 +32,7 @@ fn column_inside(b: usize) -> usize
 }
 
 // Its row there.
-fn row_inside(b: usize) -> usize
+pub fn row_inside(b: usize) -> usize
     requires { ⌜ b < 16 ⌝ }
     ensures { λ r. ⌜ (r ≡ rowIn b) × (r < 4) ⌝ }
 {
@@ -221,5 +223,98 @@ pub fn store_block(plane: &mut [u8], layout: Layout, m: usize, b: usize, block: 
     let at = first_place(layout, m, b);
     for k in 0..16 {
         plane[at + k / 4 * stride + k % 4] = block[k];
+    }
+}
+
+// ---- a macroblock as one block, in a plane where it has s by s samples
+
+// The place of its first sample in the plane.
+fn whole_place(layout: Layout, s: usize, m: usize) -> usize
+    requires { ⌜ (Among layout m 0) × (0 < s) × (s ≤ 16) ⌝ }
+    ensures { λ r. ⌜ r ≡ wholeRow s layout m * stride s layout + wholeColumn s layout m ⌝ }
+{
+    s * (m / layout.width) * (s * layout.width) + s * (m % layout.width)
+}
+
+// The flags byte of macroblock m: bit 0 the samples above, bit 1 those at the left, bit 2 the corner. They are present as those of its first
+// block are.
+pub fn flags_round(layout: Layout, m: usize) -> u8
+    requires { ⌜ Among layout m 0 ⌝ }
+    ensures { λ r. ⌜ r ≡ flagsRound 16 layout m ⌝ }
+{
+    flag(has_above(layout, m, 0), 1)
+        + flag(has_left(layout, m, 0), 2)
+        + flag(has_corner(layout, m, 0), 4)
+}
+
+// So many samples into a lent area from a place on: the samples `back` before other places, of which the first is `at` and each `step` behind the one
+// before; 0 where they are missing.
+fn line(
+    plane: &[u8],
+    at: usize,
+    back: usize,
+    step: usize,
+    present: bool,
+    out: &mut [u8],
+    place: usize,
+    count: usize,
+)
+    requires { ⌜ (Reaches present count step at back (length (now plane))) × (place + count ≤ length (now out)) ⌝ }
+    ensures { λ _. ⌜ now (out .exit) ≡ stores count (λ k. place + k) (λ k. cond present (getD (now (plane .entry)) (at + k * step - back) 0) 0) (now (out .entry)) ⌝ }
+{
+    for k in 0usize..count {
+        out[place + k] = sample(plane, at + k * step, back, present);
+    }
+}
+
+// The neighbours of macroblock m: the corner, those above, those at the left; 0 stands for one that is missing.
+pub fn gather_round(plane: &[u8], layout: Layout, s: usize, m: usize, out: &mut [u8])
+    requires { ⌜ (Among layout m 0) × (0 < s) × (s ≤ 16) ⌝ }
+    requires { ⌜ (length (now plane) ≡ planeLength s layout) × (length (now out) ≡ 2 * s + 1) ⌝ }
+    ensures { λ _. ⌜ now (out .exit) ≡ gatheredRound s layout m (now (plane .entry)) ⌝ }
+{
+    let stride = s * layout.width;
+    let at = whole_place(layout, s, m);
+    let corner = has_corner(layout, m, 0);
+    let above = has_above(layout, m, 0);
+    let left = has_left(layout, m, 0);
+    line(plane, at, stride + 1, 1, corner, out, 0, 1);
+    line(plane, at, stride, 1, above, out, 1, s);
+    line(plane, at, 1, stride, left, out, 1 + s, s);
+}
+
+// So many samples from a place of one plane or block to a place of another.
+fn copy_row(from: &[u8], start: usize, to: &mut [u8], place: usize, count: usize)
+    requires { ⌜ (start + count ≤ length (now from)) × (place + count ≤ length (now to)) ⌝ }
+    ensures { λ _. ⌜ now (to .exit) ≡ stores count (λ k. place + k) (λ k. getD (now (from .entry)) (start + k) 0) (now (to .entry)) ⌝ }
+{
+    for k in 0usize..count {
+        to[place + k] = from[start + k];
+    }
+}
+
+// The samples of macroblock m, row by row.
+pub fn read_whole(plane: &[u8], layout: Layout, s: usize, m: usize, out: &mut [u8])
+    requires { ⌜ (Among layout m 0) × (0 < s) × (s ≤ 16) ⌝ }
+    requires { ⌜ (length (now plane) ≡ planeLength s layout) × (length (now out) ≡ s * s) ⌝ }
+    ensures { λ _. ⌜ now (out .exit) ≡ wholeOf s layout m (now (plane .entry)) ⌝ }
+{
+    let stride = s * layout.width;
+    let first = whole_place(layout, s, m);
+    for y in 0usize..s {
+        copy_row(plane, first + y * stride, out, y * s, s);
+    }
+}
+
+// The plane with the samples of macroblock m in their places.
+pub fn store_whole(plane: &mut [u8], layout: Layout, s: usize, m: usize, samples: &[u8])
+    requires { ⌜ (Among layout m 0) × (0 < s) × (s ≤ 16) ⌝ }
+    requires { ⌜ (length (now plane) ≡ planeLength s layout) × (length (now samples) ≡ s * s) ⌝ }
+    ensures { λ _. ⌜ now (plane .exit) ≡ withWhole s layout m (now (samples .entry)) (now (plane .entry)) ⌝ }
+{
+    let stride = s * layout.width;
+    let first = whole_place(layout, s, m);
+    for y in 0usize..s {
+        copy_row(samples, y * s, plane, first + y * stride, s);
     }
 }

@@ -1,16 +1,15 @@
 -- The file of a coded plane: the head and a record for each macroblock.
---     recordOn, fileTo: own-on, length-to     record m and what stands before it: its form is fine, by the length of what stands before
---     length-file-from, length-coded-file     the file has the length that document 01 gives
+--     recordOn, fileTo: own-on, length-to     record m and what stands before it: its form is fine; there is room for it in the area
+--     length-file-from, length-coded-file     the file has at most the length that the area lent for it has
 -- Assumes nothing.
 use mathlib.Core.Path.{_≡_}
 use mathlib.Core.List.{List, _++_}
-use Prim.Native.Nat.{ℕ}
+use Prim.Native.Nat.{ℕ, zero, suc, _*_, _≤_}
 use native.Mathlib.Omega.{arith}
 use lib.ListN.{length, length-append}
 use Rattle.lists.specs.Parts.{parts}
-use Rattle.lists.proofs.Parts.{length-parts}
 use Rattle.record.specs.Kinds.{inFours, lengthOf}
-use Rattle.record.specs.Records.{headOf, fileLength}
+use Rattle.record.specs.Records.{headOf, areaLength}
 use Rattle.record.proofs.Back.{Own, length-head}
 use Rattle.picture.specs.declared.Layout.{Layout}
 use Rattle.picture.specs.Order.{countOf}
@@ -32,14 +31,21 @@ module _ (l : Layout) (qp : ℕ) (original start : List ℕ) where
   pub own-on : (m : ℕ) → Own m (recordOn m)
   own-on m = own-record-from l qp original m (planeBefore l qp original start m)
 
-  pub length-to : (m : ℕ) → length (fileTo m) ≡ fileLength m
-  length-to m =
-      let n = length-parts (lengthOf inFours) recordOn m (λ k h. length-record-from l qp original k (planeBefore l qp original start k)) in
-      omega (arith, length-append (headOf (l .width) (l .height)) (parts m recordOn), length-head (l .width) (l .height), n)
+  pub length-on : (m : ℕ) → length (recordOn m) ≤ lengthOf inFours
+  length-on m = length-record-from l qp original m (planeBefore l qp original start m)
 
-  pub length-file-from : length (fileFrom l qp original start) ≡ fileLength (countOf l)
+  records-short : (m : ℕ) → length (parts m recordOn) ≤ lengthOf inFours * m
+  unfolding parts
+  records-short zero = omega arith
+  records-short (suc m) = omega (arith, length-append (parts m recordOn) (recordOn m), records-short m, length-on m)
+
+  pub length-to : (m : ℕ) → length (fileTo m) ≤ areaLength m
+  length-to m =
+      omega (arith, length-append (headOf (l .width) (l .height)) (parts m recordOn), length-head (l .width) (l .height), records-short m)
+
+  pub length-file-from : length (fileFrom l qp original start) ≤ areaLength (countOf l)
   unfolding fileFrom
   length-file-from = length-to (countOf l)
 
-pub length-coded-file : (l : Layout) (qp : ℕ) (original : List ℕ) → length (codedFile l qp original) ≡ fileLength (countOf l)
+pub length-coded-file : (l : Layout) (qp : ℕ) (original : List ℕ) → length (codedFile l qp original) ≤ areaLength (countOf l)
 length-coded-file l qp original = length-file-from l qp original (cleared (planeLength 16 l))

@@ -2,17 +2,18 @@
 --     bad-size, plane-missed, file-missed, rebuilt-missed, high-quantizer, plane-coded     a law for each answer of the code
 --     code-plane-refuses-exactly-if
 --     same-coded-plane     an answer is known by what it says and how many bytes it used
---     Outcome, outcome     where it answers `Bytes`, no test has failed
+--     Outcome, outcome     where it answers `Bytes`, no test has failed: the file stands in the bytes used, and the rest keep theirs
 -- Assumes nothing.
-use mathlib.Core.Path.{_≡_, sym, ap, _∙_}
+use mathlib.Core.Path.{_≡_, refl, sym, ap, _∙_}
 use mathlib.Core.Bool.{true, false}
 use mathlib.Core.List.{List}
 use Prim.Native.Nat.{ℕ, _<_, _≤_}
+use native.Mathlib.Omega.{arith}
 use borrow.Author.Tests.{eqb-true, eq-eqb, ne-eqb}
-use lib.ListN.{length}
+use lib.ListN.{length, take, drop}
+use lib.Seq.{take-at, drop-at}
 use Rattle.lists.specs.Chain.{pass, stop, chain, ExactlyIf}
 use Rattle.lists.specs.Parts.{over}
-use Rattle.lists.proofs.Over.{over-all}
 use Rattle.lists.proofs.Chain.{chain-exactly-if, holds-new}
 use Rattle.refusal.specs.declared.Refusal.{Refusal}
 use Rattle.refusal.specs.declared.Refusal.the-variants as refusal
@@ -20,7 +21,7 @@ use Rattle.refusal.proofs.Same.{says, says-same, says-exactly-if}
 use Rattle.quantizer.specs.Range.{highest}
 use Rattle.quantizer.proofs.Range.{number-passes, number-fails, number-legal}
 use Rattle.record.specs.Entry.{sizeHolds}
-use Rattle.record.specs.Records.{fileLength}
+use Rattle.record.specs.Records.{areaLength}
 use Rattle.picture.specs.Order.{countOf}
 use Rattle.picture.specs.Plane.{layoutOf, planeLength}
 use Rattle.plane.specs.Code.{codedFile, codedPlane, codePlaneTests, saidPlane, bytesUsed, CodesPlane}
@@ -45,7 +46,7 @@ module _ (width height qp : ℕ) (plane file rebuilt : List ℕ) where
   samples = planeLength 16 (layoutOf width height)
 
   abbrev room : ℕ
-  room = fileLength (countOf (layoutOf width height))
+  room = areaLength (countOf (layoutOf width height))
 
   refused : (r : Refusal) → chain (codePlaneTests width height qp plane file rebuilt) ≡ stop r → CodesPlane width height qp plane file rebuilt (Refused r) file rebuilt
   refused r e = record { says = says (sym e); used = simp e; filed = simp e; stored = simp e }
@@ -94,8 +95,10 @@ pub record Outcome (width height qp : ℕ) (plane file rebuilt : List ℕ) (used
   pub long : length plane ≡ planeLength 16 (layoutOf width height)
   pub room : length rebuilt ≡ planeLength 16 (layoutOf width height)
   pub legal : qp ≤ highest
-  pub bytes : used ≡ fileLength (countOf (layoutOf width height))
-  pub filed : file′ ≡ codedFile (layoutOf width height) qp plane
+  pub bytes : used ≡ length (codedFile (layoutOf width height) qp plane)
+  pub within : used ≤ length file
+  pub filed : take used file′ ≡ codedFile (layoutOf width height) qp plane
+  pub kept : drop used file′ ≡ drop used file
   pub stored : rebuilt′ ≡ codedPlane (layoutOf width height) qp plane
 
 module _ (width height qp : ℕ) (plane : List ℕ) where
@@ -105,13 +108,17 @@ module _ (width height qp : ℕ) (plane : List ℕ) where
       let v : chain (codePlaneTests width height qp plane file rebuilt) ≡ pass = sym (says-same (c .says)) in
       let all = chain-exactly-if (codePlaneTests width height qp plane file rebuilt) .passes .0 v in
       let n = length-coded-file (layoutOf width height) qp plane in
-      let area : length file ≡ fileLength (countOf (layoutOf width height)) = eqb-true (length file) (fileLength (countOf (layoutOf width height))) (all .1 .1 .0) in
+      let bytes = holds-new 0 v (c .used) in
+      let filed = holds-new file v (c .filed) in
+      let area : length file ≡ areaLength (countOf (layoutOf width height)) = eqb-true (length file) (areaLength (countOf (layoutOf width height))) (all .1 .1 .0) in
       record {
         size = all .0;
         long = eqb-true (length plane) (planeLength 16 (layoutOf width height)) (all .1 .0);
         room = eqb-true (length rebuilt) (planeLength 16 (layoutOf width height)) (all .1 .1 .1 .0);
         legal = number-legal 0 qp (all .1 .1 .1 .1 .0);
-        bytes = holds-new 0 v (c .used) ∙ n;
-        filed = holds-new file v (c .filed) ∙ over-all (codedFile (layoutOf width height) qp plane) file (area ∙ sym n);
+        bytes = bytes;
+        within = omega (arith, bytes, n, area);
+        filed = (λ i. take (bytes i) (filed i)) ∙ take-at (codedFile (layoutOf width height) qp plane) (drop (length (codedFile (layoutOf width height) qp plane)) file) (length (codedFile (layoutOf width height) qp plane)) refl;
+        kept = (λ i. drop (bytes i) (filed i)) ∙ drop-at (codedFile (layoutOf width height) qp plane) (drop (length (codedFile (layoutOf width height) qp plane)) file) (length (codedFile (layoutOf width height) qp plane)) refl ∙ ap (λ (n : ℕ). drop n file) (sym bytes);
         stored = holds-new rebuilt v (c .stored);
       }

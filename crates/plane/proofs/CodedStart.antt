@@ -1,12 +1,12 @@
 -- What stood in the rebuilt plane, and in the file area, has no value for the coder.
 --     code-plane-start-has-no-value     the file and the rebuilt plane are the same from any two planes of the picture's length
---     code-plane-entry-has-no-value     two calls that were lent other areas leave the same in them
+--     code-plane-entry-has-no-value     two calls that were lent other areas use as many bytes, and leave the same in these and in the planes
 -- Assumes nothing.
 use mathlib.Core.Path.{_≡_, sym, ap, _∙_}
 use mathlib.Core.List.{List, _++_}
 use Prim.Native.Nat.{ℕ, _<_}
 use native.Mathlib.Omega.{arith}
-use lib.ListN.{length}
+use lib.ListN.{length, take}
 use Rattle.record.specs.Records.{headOf}
 use Rattle.picture.specs.declared.Layout.{Layout}
 use Rattle.picture.specs.Plane.{planeLength}
@@ -36,7 +36,7 @@ module _ (l : Layout) (some : 0 < l .width) (qp : ℕ) (original p q : List ℕ)
 pub code-plane-entry-has-no-value : (width height qp : ℕ) (plane file rebuilt other-file other-rebuilt : List ℕ) (used other-used : ℕ) (file′ rebuilt′ file″ rebuilt″ : List ℕ)
     → CodesPlane width height qp plane file rebuilt (Bytes used) file′ rebuilt′
     → CodesPlane width height qp plane other-file other-rebuilt (Bytes other-used) file″ rebuilt″
-    → (used ≡ other-used) × (file′ ≡ file″) × (rebuilt′ ≡ rebuilt″)
+    → (used ≡ other-used) × (take used file′ ≡ take other-used file″) × (rebuilt′ ≡ rebuilt″)
 code-plane-entry-has-no-value width height qp plane file rebuilt other-file other-rebuilt used other-used file′ rebuilt′ file″ rebuilt″ c d =
     let x = outcome width height qp plane file rebuilt used file′ rebuilt′ c in
     let y = outcome width height qp plane other-file other-rebuilt other-used file″ rebuilt″ d in

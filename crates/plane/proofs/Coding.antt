@@ -13,23 +13,22 @@ use Rattle.lists.proofs.Fold.{Folding, folding-none, folding-more, folding-done
 use Rattle.lists.proofs.Over.{over-more, over-again, length-over}
 use Rattle.lists.proofs.Parts.{parts-more}
 use Rattle.record.specs.Kinds.{inFours, lengthOf}
-use Rattle.record.specs.Records.{headLength, headOf, fileLength}
+use Rattle.record.specs.Records.{headLength, headOf, areaLength}
 use Rattle.record.proofs.Back.{length-head}
 use Rattle.picture.specs.declared.Layout.{Layout}
 use Rattle.picture.specs.Order.{countOf}
 use Rattle.picture.specs.Plane.{planeLength}
 use Rattle.macroblock.specs.Code.{recordFrom, codedStep}
 use Rattle.macroblock.proofs.Looks.{coded-step}
-use Rattle.macroblock.proofs.RecordFrom.{length-record-from}
 use Rattle.plane.specs.Code.{planeBefore, fileFrom, planeFrom}
-use Rattle.plane.proofs.CodedFile.{recordOn, fileTo, length-to}
+use Rattle.plane.proofs.CodedFile.{recordOn, fileTo, length-on, length-to}
 
 module _ (l : Layout) (qp : ℕ) (original start area : List ℕ) where
   -- the head and m records stand over the front of the area, and the next one begins at the place
   pub record FileCoded (file rebuilt : List ℕ) (place m : ℕ) : Type 0 where
     pub kept : length rebuilt ≡ planeLength 16 l
     pub stepped : Folding (countOf l) (codedStep l qp original) start rebuilt m
-    pub room : fileLength (countOf l) ≤ length area
+    pub room : areaLength (countOf l) ≤ length area
     pub filled : file ≡ over (fileTo l qp original start m) area
     pub next : place ≡ length (fileTo l qp original start m)
 
@@ -62,7 +61,7 @@ module _ (l : Layout) (qp : ℕ) (original start area : List ℕ) where
       let r = room-left c h in
       let more : fileTo l qp original start (m + 1) ≡ fileTo l qp original start m ++ recordOn l qp original start m =
       ap (λ (x : List ℕ). headOf (l .width) (l .height) ++ x) (parts-more m (recordOn l qp original start)) ∙ sym (append-assoc (headOf (l .width) (l .height)) (parts m (recordOn l qp original start)) (recordOn l qp original start m)) in
-      let long = length-record-from l qp original m (planeBefore l qp original start m) in
+      let long = length-on l qp original start m in
       let at : back ≡ over (recordOn l qp original start m) (take (end - length (fileTo l qp original start m)) (drop (length (fileTo l qp original start m)) file)) =
       is-back ∙ (λ i. over (e i) (take (end - c .next i) (drop (c .next i) file))) in
       record {
@@ -80,7 +79,7 @@ module _ (l : Layout) (qp : ℕ) (original start area : List ℕ) where
 
 module _ (l : Layout) (qp : ℕ) (original start stood : List ℕ) where
   -- the head has been written
-  pub file-begun : {file : List ℕ} {place : ℕ} → length start ≡ planeLength 16 l → fileLength (countOf l) ≤ length stood
+  pub file-begun : {file : List ℕ} {place : ℕ} → length start ≡ planeLength 16 l → areaLength (countOf l) ≤ length stood
       → file ≡ over (headOf (l .width) (l .height)) stood → place ≡ headLength → FileCoded l qp original start file file start place 0
   unfolding parts
   file-begun {file} {place} long room is-file is-place =

@@ -1,5 +1,5 @@
 -- What the tests of decoding come to, and when it refuses.
---     plane-short, file-short, body-rest       what is tested behind the head
+--     plane-short, body-rest                   what is tested behind the head
 --     records-passed                           of the records the form passed, and the content
 --     body-refused, body-done                  what the code leaves behind the head
 --     head-read, head-refused, decodes-by     what a head tells, and the tests behind it
@@ -25,10 +25,10 @@ use Rattle.record.specs.declared.Head.the-variants.{Legal}
 use Rattle.record.specs.declared.Head.the-variants as head-variants
 use Rattle.record.specs.Entry as head
 use Rattle.record.specs.Entry.{ReadsHead, headTests, sizeHolds}
-use Rattle.record.specs.Records.{headLength, fileLength}
+use Rattle.record.specs.Records.{headLength}
 use Rattle.record.proofs.Heads.{sized-of, head-told}
 use Rattle.picture.specs.declared.Layout.{Layout}
-use Rattle.picture.specs.Order.{Sound, countOf}
+use Rattle.picture.specs.Order.{Sound}
 use Rattle.picture.specs.Plane.{layoutOf, planeLength}
 use Rattle.plane.specs.Decode.{recordIn, formsTests, contentsTests, bodyTests, layoutIn, decodeTests, decoded, decodedPlane, DecodesBody, Decodes}
 
@@ -40,12 +40,8 @@ module _ (l : Layout) (place : ℕ) (file plane : List ℕ) where
   pub plane-short : (length plane ≡ planeLength 16 l → ⊥) → chain (bodyTests l place file plane) ≡ stop refusal.Length
   plane-short h = rw (ne-eqb (length plane) (planeLength 16 l) h)
 
-  module _ (long : length plane ≡ planeLength 16 l) where
-    pub file-short : (length file ≡ fileLength (countOf l) → ⊥) → chain (bodyTests l place file plane) ≡ stop (refusal.Form (length file))
-    file-short h = rw (eq-eqb (length plane) (planeLength 16 l) long, ne-eqb (length file) (fileLength (countOf l)) h)
-
-    pub body-rest : length file ≡ fileLength (countOf l) → chain (bodyTests l place file plane) ≡ chain recordsTests
-    body-rest h = rw (eq-eqb (length plane) (planeLength 16 l) long, eq-eqb (length file) (fileLength (countOf l)) h)
+  pub body-rest : length plane ≡ planeLength 16 l → chain (bodyTests l place file plane) ≡ chain recordsTests
+  body-rest long = rw (eq-eqb (length plane) (planeLength 16 l) long)
 
   -- what rebuilding asks
   pub records-passed : chain recordsTests ≡ pass → (chain (formsTests l place file) ≡ pass) × (chain (contentsTests l (recordIn file place)) ≡ pass)

@@ -6,6 +6,7 @@ pub mod Entry
 pub mod FormRefused
 pub mod OwnRecord
 pub mod OwnWitness
+pub mod Rest
 pub mod Start
 pub mod Trip
 pub mod Unique

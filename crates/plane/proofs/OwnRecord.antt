@@ -83,14 +83,14 @@ module _ (l : Layout) (qp : ℕ) (start p q : List ℕ) (m : ℕ) (same : SameTo
 
 -- ---- by the contract
 
--- the files of two planes that agree in all macroblocks before m, where record m begins in each
+-- the files of two planes that agree in all macroblocks before m, each in the bytes used: where record m begins, and what stands before it
 module _ (width height qp : ℕ) (p q file-p rebuilt-p file-q rebuilt-q : List ℕ) (used-p used-q : ℕ) (file-p′ rebuilt-p′ file-q′ rebuilt-q′ : List ℕ)
     (coded-p : CodesPlane width height qp p file-p rebuilt-p (Bytes used-p) file-p′ rebuilt-p′)
     (coded-q : CodesPlane width height qp q file-q rebuilt-q (Bytes used-q) file-q′ rebuilt-q′)
   where
     pub own-record-coded : (m : ℕ) → m ≤ width * height → SameTo (layoutOf width height) m p q
-        → (recordPlace m file-p′ headLength ≡ recordPlace m file-q′ headLength)
-        × (take (recordPlace m file-p′ headLength) file-p′ ≡ take (recordPlace m file-q′ headLength) file-q′)
+        → (recordPlace m (take used-p file-p′) headLength ≡ recordPlace m (take used-q file-q′) headLength)
+        × (take (recordPlace m (take used-p file-p′) headLength) (take used-p file-p′) ≡ take (recordPlace m (take used-q file-q′) headLength) (take used-q file-q′))
     own-record-coded m h same =
         let l = layoutOf width height in
         let start = cleared (planeLength 16 (layoutOf width height)) in

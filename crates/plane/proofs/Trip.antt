@@ -4,14 +4,14 @@
 --     own-contents         the content of all its records is fine
 --     plane-again          the decoder rebuilds the coder's plane
 --     own-file-decodes     so the file is decoded, whatever stood in the plane
---     coder-decoder-agree  by the two contracts
+--     coder-decoder-agree  by the two contracts: the bytes that the coder used are decoded to the plane that it rebuilt
 -- Assumes nothing.
 use mathlib.Core.Path.{_≡_, refl, sym, ap, _∙_}
 use mathlib.Core.Bool.{true}
 use mathlib.Core.List.{List}
 use Prim.Native.Nat.{ℕ, _*_, _<_, _≤_}
 use native.Mathlib.Omega.{arith}
-use lib.ListN.{length}
+use lib.ListN.{length, take}
 use Rattle.lists.specs.Chain.{Verdict, pass, chain, written}
 use Rattle.lists.specs.Parts.{parts}
 use Rattle.lists.specs.Bytes.{Bytes}
@@ -35,12 +35,12 @@ use Rattle.picture.specs.Plane.{layoutOf, planeLength}
 use Rattle.macroblock.specs.Code.{codedStep}
 use Rattle.macroblock.specs.Content.{contentTests}
 use Rattle.macroblock.specs.Rebuild.{rebuiltStep}
-use Rattle.macroblock.proofs.CodedRecord.{content-own, step-again}
+use Rattle.macroblock.proofs.Contents.{content-own, step-again}
 use Rattle.macroblock.proofs.Looks.{coded-bytes}
 use Rattle.plane.specs.Decode.{recordIn, formsTests, contentsTests, bodyTests, rebuiltFrom, cleared, Decodes}
 use Rattle.plane.specs.Code.{planeBefore, planeFrom, fileFrom, codedFile, codedPlane, CodesPlane}
 use Rattle.plane.specs.declared.CodedPlane.the-variants as coded
-use Rattle.plane.proofs.CodedFile.{recordOn, fileTo, own-on, length-file-from}
+use Rattle.plane.proofs.CodedFile.{recordOn, fileTo, own-on}
 use Rattle.plane.proofs.CodedOutcome.{outcome}
 use Rattle.plane.proofs.Entry.{body-rest, body-done, LegalHead, head-read, decodes-by}
 
@@ -112,7 +112,7 @@ own-file-decodes width height qp plane size legal bytes out room =
     let small = cleared-bytes (planeLength 16 (layoutOf width height)) in
     let file = codedFile (layoutOf width height) qp plane in
     let passed : chain (bodyTests l headLength file out) ≡ pass =
-    body-rest l headLength file out room (length-file-from l qp plane start)
+    body-rest l headLength file out room
     ∙ chain-passed (formsTests l headLength file) (contentsTests l (recordIn file headLength)) (own-forms l qp plane start)
     ∙ own-contents l qp plane start legal bytes small in
     decodes-by file out (own-head width height qp plane start size)
@@ -123,8 +123,8 @@ own-file-decodes width height qp plane size legal bytes out room =
 pub coder-decoder-agree : (width height qp : ℕ) (plane file rebuilt : List ℕ) (used : ℕ) (file′ rebuilt′ : List ℕ) → Bytes plane
     → CodesPlane width height qp plane file rebuilt (coded.Bytes used) file′ rebuilt′
     → (out : List ℕ) → length out ≡ planeLength 16 (layoutOf width height)
-    → Decodes file′ out Done rebuilt′ × ((r : Answer) (after : List ℕ) → Decodes file′ out r after → (r ≡ Done) × (after ≡ rebuilt′))
+    → Decodes (take used file′) out Done rebuilt′ × ((r : Answer) (after : List ℕ) → Decodes (take used file′) out r after → (r ≡ Done) × (after ≡ rebuilt′))
 coder-decoder-agree width height qp plane file rebuilt used file′ rebuilt′ bytes c out room =
     let o = outcome width height qp plane file rebuilt used file′ rebuilt′ c in
-    let d : Decodes file′ out Done rebuilt′ = rw (o .filed, o .stored) (own-file-decodes width height qp plane (o .size) (o .legal) bytes out room) in
+    let d : Decodes (take used file′) out Done rebuilt′ = rw (o .filed, o .stored) (own-file-decodes width height qp plane (o .size) (o .legal) bytes out room) in
     (d, λ r after e. (same-answer r Done (says-same (e .says) ∙ sym (says-same (d .says))), e .wrote ∙ sym (d .wrote)))

@@ -3,18 +3,20 @@
 --     Walking: walking-none, walking-more       the place is that at which record m begins
 --     part-inside, part-long, part-is           what is lent from there lies in the file, and is record m
 -- Assumes nothing.
-use mathlib.Core.Path.{_≡_, sym, ap, _∙_}
+use mathlib.Core.Path.{_≡_, refl, sym, ap, _∙_}
+use mathlib.Core.Bool.{Bool, true, false}
 use mathlib.Core.List.{List}
 use Prim.Native.Nat.{ℕ, _+_, _-_, _<_, _≤_}
 use lib.ListN.{length, take, drop}
 use Rattle.lists.specs.Chain.{chain, pass}
 use Rattle.record.specs.Faults.{walkOf}
-use Rattle.record.specs.Kinds.{inFours, lengthOf}
-use Rattle.record.specs.Records.{recordAt, recordPlace, lengthFrom}
+use Rattle.record.specs.Kinds.{lengthOf}
+use Rattle.record.specs.Records.{isWhole, recordAt, recordPlace, lengthFrom}
 use Rattle.record.specs.declared.Walk.the-variants.{Whole}
-use Rattle.record.proofs.Walks.{Lent, lent, lent-fours, place-none, place-next, walk-whole-exactly-if, form-passes-exactly-if}
+use Rattle.record.proofs.Walks.{Lent, lent, lent-whole, lent-fours, place-none, place-next, walk-whole-exactly-if, form-passes-exactly-if}
 use Rattle.picture.specs.declared.Layout.{Layout}
 use Rattle.picture.specs.Order.{countOf}
+use Rattle.macroblock.specs.Content.{kindBy}
 use Rattle.plane.specs.Decode.{formsTests, recordIn}
 
 module _ (l : Layout) (file : List ℕ) (start : ℕ) where
@@ -38,8 +40,13 @@ module _ (l : Layout) (file : List ℕ) (start : ℕ) where
     pub part-inside : place + long ≤ length file
     part-inside = lent-here .inside
 
-    pub part-long : length (take (place + long - place) (drop place file)) ≡ lengthOf inFours
-    part-long = lent-fours file lent-here
+    pub part-long : length (take (place + long - place) (drop place file)) ≡ lengthOf (kindBy (take (place + long - place) (drop place file)))
+    part-long = by (isWhole (take (place + long - place) (drop place file))) refl
+      where
+        by : (b : Bool) → isWhole (take (place + long - place) (drop place file)) ≡ b
+            → length (take (place + long - place) (drop place file)) ≡ lengthOf (kindBy (take (place + long - place) (drop place file)))
+        by true e = rw e (lent-whole file lent-here e)
+        by false e = rw e (lent-fours file lent-here e)
 
     pub part-is : take (place + long - place) (drop place file) ≡ recordIn file start m
     unfolding recordIn

@@ -3,17 +3,17 @@
 use mathlib.Core.Path.{_≡_}
 use mathlib.Core.List.{List, [], _∷_, _++_}
 use Prim.Native.Nat.{ℕ}
-use lib.Dec.{eqb}
 use lib.ListN.{length}
 use Rattle.lists.specs.Chain.{Test, test, Verdict, pass, stop, chain, written}
 use Rattle.lists.specs.Fold.{fold}
 use Rattle.lists.specs.Parts.{parts, over}
 use Rattle.refusal.specs.Number.{Says}
+use Rattle.refusal.specs.Tests.{lengthTest}
 use Rattle.refusal.specs.declared.Refusal.{Refusal}
 use Rattle.refusal.specs.declared.Refusal.the-variants as refusal
 use Rattle.quantizer.specs.Range.{quantizerTest}
 use Rattle.record.specs.Entry.{sizeHolds}
-use Rattle.record.specs.Records.{headOf, fileLength}
+use Rattle.record.specs.Records.{headOf, areaLength}
 use Rattle.picture.specs.declared.Layout.{Layout}
 use Rattle.picture.specs.Order.{countOf}
 use Rattle.picture.specs.Plane.{layoutOf, planeLength}
@@ -46,13 +46,13 @@ codedPlane l qp original = planeFrom l qp original (cleared (planeLength 16 l))
 
 -- ---- the entry point
 
--- "Coding a plane: SIZE, LENGTH, QUANTIZER"
+-- "Coding a plane: SIZE, LENGTH, QUANTIZER"; "The area lent to the coder for the file counts 527 for each macroblock, with the head" (02, Req 01)
 abbrev pub codePlaneTests : (width height qp : ℕ) (plane file rebuilt : List ℕ) → List (Test Refusal)
 codePlaneTests width height qp plane file rebuilt =
     test (sizeHolds width height) refusal.Size
-    ∷ test (eqb (length plane) (planeLength 16 (layoutOf width height))) refusal.Length
-    ∷ test (eqb (length file) (fileLength (countOf (layoutOf width height)))) refusal.Length
-    ∷ test (eqb (length rebuilt) (planeLength 16 (layoutOf width height))) refusal.Length
+    ∷ lengthTest (planeLength 16 (layoutOf width height)) (length plane)
+    ∷ lengthTest (areaLength (countOf (layoutOf width height))) (length file)
+    ∷ lengthTest (planeLength 16 (layoutOf width height)) (length rebuilt)
     ∷ quantizerTest 0 qp ∷ []
 
 -- what an answer says, and how many bytes of the file area were used (0 where refused): "a definition gives, for each of its cases, this
@@ -65,7 +65,8 @@ abbrev pub bytesUsed : CodedPlane → ℕ
 bytesUsed (Bytes used) = used
 bytesUsed (Refused r) = 0
 
--- what is left of the file area and the rebuilt plane by a verdict: file′ and rebuilt′
+-- what is left of the file area and the rebuilt plane by a verdict, file′ and rebuilt′: "the result says how many bytes were used, and the
+-- rest keep theirs" (02, Req 01)
 pub record LeavesPlane (v : Verdict Refusal) (l : Layout) (qp : ℕ) (plane file rebuilt : List ℕ) (r : CodedPlane) (file′ rebuilt′ : List ℕ) : Type 0 where
   pub says : Says (saidPlane r) v
   pub used : bytesUsed r ≡ written v (length (codedFile l qp plane)) 0

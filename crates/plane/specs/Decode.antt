@@ -1,22 +1,22 @@
--- Decoding a plane: "head (short, mark, sum: 9, place 0), SIZE, LENGTH of the plane, file length (9, place = its length), then, record by
--- record, mark, number, sum (9, place = the record's first byte); then by record QUANTIZER, all modes, then ranges"
--- (01, "What is sent back, and in which order it is tested"). Assumes nothing.
+-- Decoding a plane: "head (short, mark, sum: 9, place 0), SIZE, LENGTH of the plane" (01, "What is sent back, and in which order it is
+-- tested"); "Per record now cut mark, mark, cut rest, number, sum; bytes after the last record come at the end" (02, Req 01); "then by record"
+-- the content (01). Assumes nothing.
 use mathlib.Core.Path.{_≡_}
 use mathlib.Core.List.{List, _∷_, _++_}
 use Prim.Native.Nat.{ℕ, _<_}
-use lib.Dec.{eqb}
 use lib.ListN.{length, drop}
-use Rattle.lists.specs.Chain.{Test, test, pass, stop, chain, written}
+use Rattle.lists.specs.Chain.{Test, pass, stop, chain, written}
 use Rattle.lists.specs.Fold.{fold}
 use Rattle.lists.specs.Parts.{parts}
 use Rattle.lists.specs.Tab.{tab}
 use Rattle.refusal.specs.Number.{said, Says}
+use Rattle.refusal.specs.Tests.{lengthTest}
 use Rattle.refusal.specs.declared.Answer.{Answer}
 use Rattle.refusal.specs.declared.Refusal.{Refusal}
 use Rattle.refusal.specs.declared.Refusal.the-variants as refusal
 use Rattle.record.specs.Entry.{headTests, widthAt, heightAt, rowsAt}
-use Rattle.record.specs.Faults.{formTests, walkOf, walkTests}
-use Rattle.record.specs.Records.{headLength, fileLength, recordAt, recordPlace}
+use Rattle.record.specs.Faults.{refusalOf, formTests, walkOf, walkTests}
+use Rattle.record.specs.Records.{headLength, lengthFrom, recordAt, recordPlace}
 use Rattle.record.specs.declared.Fault.{Fault}
 use Rattle.picture.specs.declared.Layout.{Layout}
 use Rattle.picture.specs.Order.{countOf}
@@ -30,7 +30,7 @@ use Rattle.macroblock.specs.Rebuild.{rebuiltStep}
 unfoldable pub recordIn : List ℕ → (place m : ℕ) → List ℕ
 recordIn file place m = recordAt (recordPlace m file place) file
 
--- the form of all records, "record by record, mark, number, sum"
+-- the form of all records, "Per record now cut mark, mark, cut rest, number, sum; bytes after the last record come at the end"
 abbrev pub formsTests : Layout → (place : ℕ) → List ℕ → List (Test Refusal)
 formsTests l place file = walkTests file (walkOf (countOf l) file place)
 
@@ -41,8 +41,7 @@ contentsTests l records = parts (countOf l) (λ m. contentTests l m (records m))
 -- what is tested behind a head that ends at a place
 abbrev pub bodyTests : Layout → (place : ℕ) → List ℕ → List ℕ → List (Test Refusal)
 bodyTests l place file plane =
-    test (eqb (length plane) (planeLength 16 l)) refusal.Length
-    ∷ test (eqb (length file) (fileLength (countOf l))) (refusal.Form (length file))
+    lengthTest (planeLength 16 l) (length plane)
     ∷ (formsTests l place file ++ contentsTests l (recordIn file place))
 
 -- the picture that a file's head tells of
@@ -80,15 +79,17 @@ pub record Decodes (file before : List ℕ) (r : Answer) (after : List ℕ) : Ty
   pub says : Says (said r) (chain (decodeTests file before))
   pub wrote : after ≡ written (chain (decodeTests file before)) (decodedPlane file) before
 
--- FORM is answered with a place because of the head, the file's length, or the first record whose own tests fail: "head (short, mark, sum: 9,
--- place 0) .., file length (9, place = its length), then, record by record, mark, number, sum (9, place = the record's first byte)"
+-- FORM is answered with a place because of the head, the first record whose own tests fail, or bytes after the last one: "A cut or surplus
+-- has the file length as place" (02, Req 01), mark, number and sum "the record's first byte" (01)
 pub data FormRefused (file before : List ℕ) (place : ℕ) : Type 0 where
   at-head : chain (headTests file) ≡ stop (refusal.Form place) → FormRefused file before place
-  by-length :
-      chain (headTests file) ≡ pass → length before ≡ planeLength 16 (layoutIn file) → (length file ≡ fileLength (countOf (layoutIn file)) → ⊥)
-      → place ≡ length file → FormRefused file before place
   at-record :
-      chain (headTests file) ≡ pass → length before ≡ planeLength 16 (layoutIn file) → length file ≡ fileLength (countOf (layoutIn file))
-      → (m : ℕ) → m < countOf (layoutIn file) → place ≡ recordPlace m file headLength
+      chain (headTests file) ≡ pass → length before ≡ planeLength 16 (layoutIn file) → (m : ℕ) → m < countOf (layoutIn file)
       → ((k : ℕ) → k < m → chain (formTests k (drop (recordPlace k file headLength) file)) ≡ pass)
-      → (fault : Fault) → chain (formTests m (drop (recordPlace m file headLength) file)) ≡ stop fault → FormRefused file before place
+      → (fault : Fault) → chain (formTests m (drop (recordPlace m file headLength) file)) ≡ stop fault
+      → refusal.Form place ≡ refusalOf fault (recordPlace m file headLength) (lengthFrom (recordPlace m file headLength) file) (length file)
+      → FormRefused file before place
+  behind-last :
+      chain (headTests file) ≡ pass → length before ≡ planeLength 16 (layoutIn file)
+      → ((k : ℕ) → k < countOf (layoutIn file) → chain (formTests k (drop (recordPlace k file headLength) file)) ≡ pass)
+      → recordPlace (countOf (layoutIn file)) file headLength < length file → place ≡ length file → FormRefused file before place

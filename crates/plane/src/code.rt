@@ -4,7 +4,7 @@ ghost use Prim.Native.Nat.{_≤_};
 ghost use lib.ListN.{length};
 ghost use Rattle.lists.specs.Parts.{over};
 ghost use Rattle.quantizer.specs.Range.{highest};
-ghost use Rattle.record.specs.Records.{fileLength};
+ghost use Rattle.record.specs.Records.{areaLength};
 ghost use Rattle.picture.specs.Order.{Sound, countOf};
 ghost use Rattle.picture.specs.Plane.{planeLength};
 ghost use Rattle.plane.specs.Code.{fileFrom, planeFrom};
@@ -20,7 +20,7 @@ pub(crate) fn code_file(
     rebuilt: &mut [u8],
 ) -> usize
     requires { ⌜ (Sound layout) × (quantizer .qp ≤ highest) × (length (now plane) ≡ planeLength 16 layout) ⌝ }
-    requires { ⌜ (fileLength (countOf layout) ≤ length (now file)) × (length (now rebuilt) ≡ planeLength 16 layout) ⌝ }
+    requires { ⌜ (areaLength (countOf layout) ≤ length (now file)) × (length (now rebuilt) ≡ planeLength 16 layout) ⌝ }
     ensures { λ r. ⌜ r ≡ length (fileFrom layout (quantizer .qp) (now (plane .entry)) (now (rebuilt .entry))) ⌝ }
     ensures { λ r. ⌜ now (file .exit) ≡ over (fileFrom layout (quantizer .qp) (now (plane .entry)) (now (rebuilt .entry))) (now (file .entry)) ⌝ }
     ensures { λ r. ⌜ now (rebuilt .exit) ≡ planeFrom layout (quantizer .qp) (now (plane .entry)) (now (rebuilt .entry)) ⌝ }

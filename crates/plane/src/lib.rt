@@ -44,9 +44,6 @@ fn decode(layout: Layout, place: usize, file: &[u8], plane: &mut [u8]) -> Answer
     if plane.len() != 256 * count {
         return Answer::Refused(Refusal::Length);
     }
-    if file.len() != record::inner::file_length(count) {
-        return Answer::Refused(Refusal::Form(file.len()));
-    }
     match tested(layout, place, file) {
         Answer::Refused(refusal) => Answer::Refused(refusal),
         Answer::Done => {
@@ -92,7 +89,7 @@ pub fn code_plane(
     if plane.len() != 256 * count {
         return CodedPlane::Refused(Refusal::Length);
     }
-    if file.len() != record::inner::file_length(count) {
+    if file.len() != record::inner::area_length(count) {
         return CodedPlane::Refused(Refusal::Length);
     }
     if rebuilt.len() != 256 * count {

@@ -2,18 +2,19 @@
 --     sum-own                                                the sum at the end of a summed list holds
 --     length-head, width-back, height-back, head-own, head-back     a head
 --     Own, first-own, form-own                               a record of any kind, whatever stands behind it
---     length-with, number-with, qp-with, level-with, sealed-with, own-with     what is written with a kind's mark and lengths is one, and is read back
---     length-record, qp-back, mode-back, level-back, levels-back, own-record    the 4x4 kind
---     sealed, levels-parts                                   a record whose levels stood in their place already, block by block
+--     longest-own                                            it is no longer than one of the 4x4 kind
+--     length-with, number-with, qp-with, level-with, levels-with, own-with     what is written with a kind's mark and lengths is one, and is read back
+--     length-record, qp-back, mode-back, level-back, levels-back, own-record, not-whole     the 4x4 kind
+--     length-whole, whole-qp-back, whole-mode-back, whole-levels-back, own-whole, is-whole     the 16x16 kind
 --     walk-own, said-own, place-found, record-found          the walk over records one behind the other, each of any kind, comes through, and
 --                                                            each is found where what stands before it ends
 -- Assumes nothing.
 use mathlib.Core.Path.{_≡_, refl, sym, ap, _∙_}
-use mathlib.Core.Bool.{true}
+use mathlib.Core.Bool.{true, false}
 use mathlib.Core.List.{List, [], _∷_, _++_, append-nil}
-use Prim.Native.Nat.{ℕ, zero, suc, _+_, _-_, _*_, _/_, _<_, _≤_}
+use Prim.Native.Nat.{ℕ, suc, _+_, _-_, _*_, _/_, _<_, _≤_}
 use native.Mathlib.Omega.{arith}
-use borrow.Author.Tests.{eq-eqb, le-leb}
+use borrow.Author.Tests.{eq-eqb, ne-eqb, le-leb}
 use lib.IntN.{ℤ, pos}
 use lib.ListN.{length, take, drop, getD, length-append, length-drop, List·getD-append}
 use lib.Seq.{take-at, getD-append-add, getD-take, getD-drop, length-take-le}
@@ -31,10 +32,10 @@ use Rattle.lists.proofs.Tab.{tab-of}
 use Rattle.refusal.proofs.Same.{says-same}
 use Rattle.record.specs.Entry.{sizeHolds, headTests, ReadsHead}
 use Rattle.record.specs.Faults.{formOf, stepped, onward, walkOf, walkSaid}
-use Rattle.record.specs.Kinds.{lengthOf, inFours, known, kindOf, lengthKnown}
+use Rattle.record.specs.Kinds.{lengthOf, inFours, inWhole, known, kindOf, lengthKnown}
 use Rattle.record.specs.Modes.{packed, unpaired}
 use Rattle.record.specs.Numbers.{bytesOf, numberAt, levelBytes}
-use Rattle.record.specs.Records.{summed, sumHolds, headLength, headOf, headMark, frontWith, recordWith, levelWith, frontOf, recordOf, numberIn, qpIn, modeIn, levelIn, levelsIn, lengthIn, firstIn, recordAt, recordPlace}
+use Rattle.record.specs.Records.{summed, sumHolds, headLength, headOf, headMark, frontWith, recordWith, levelWith, allLevelsIn, recordOf, recordWhole, numberIn, qpIn, isWhole, wholeModeIn, modeIn, levelIn, levelsIn, lengthIn, firstIn, recordAt, recordPlace}
 use Rattle.record.specs.Sum.{recordSum}
 use Rattle.record.specs.declared.Form.the-variants.{Fine}
 use Rattle.record.specs.declared.Form.{Form}
@@ -45,8 +46,8 @@ use Rattle.record.specs.declared.Kind.{Kind}
 use Rattle.record.specs.declared.Walk.{Walk}
 use Rattle.record.proofs.Forms.{fine}
 use Rattle.record.proofs.Heads.{head-legal, same-head}
-use Rattle.record.proofs.Levels.{highAt, lowAt, levels-append, length-levels, levels-by-two}
-use Rattle.record.proofs.Marks.{front-known, fours, length-there}
+use Rattle.record.proofs.Levels.{highAt, lowAt, length-levels, levels-by-two}
+use Rattle.record.proofs.Marks.{front-known, longest-known, fours, wholes, length-there}
 use Rattle.record.proofs.Modes.{length-packed, packed-back}
 use Rattle.record.proofs.Walks.{end-known}
 
@@ -132,6 +133,9 @@ module _ (number : ℕ) (bytes : List ℕ) (own : Own number bytes) where
   six-own : 6 ≤ length bytes
   six-own = omega (arith, own .long, front-known (numberAt 0 bytes) (own .kind) (own .named))
 
+  pub longest-own : length bytes ≤ lengthOf inFours
+  longest-own = omega (arith, own .long, longest-known (numberAt 0 bytes) (own .kind) (own .named))
+
   module _ (rest : List ℕ) where
     -- whatever stands behind it, its mark says where it ends
     length-own : lengthIn (bytes ++ rest) ≡ length bytes
@@ -197,11 +201,10 @@ module _ (kind : Kind) (number : ℕ) (more : List ℕ) (levels : List ℤ) wher
     pub level-with : ((k : ℕ) → SFits w16 (getD levels k (pos 0))) → (i : ℕ) → i < kind .levels → levelWith kind i (recordWith kind number more levels) ≡ getD levels i (pos 0)
     level-with small i h = ap (toZ w16) (number-in i h) ∙ toZ-ofZ w16 (getD levels i (pos 0)) (small i)
 
--- the levels stood in their place already
-pub sealed-with : (kind : Kind) (number : ℕ) (more : List ℕ) (levels : List ℤ) (stood : List ℕ) → stood ≡ levelBytes levels
-    → summed (frontWith kind number more ++ stood) ≡ recordWith kind number more levels
-unfolding recordWith
-sealed-with kind number more levels stood e = ap (λ (l : List ℕ). summed (frontWith kind number more ++ l)) e
+    pub levels-with : ((k : ℕ) → SFits w16 (getD levels k (pos 0))) → allLevelsIn kind (recordWith kind number more levels) ≡ levels
+    unfolding allLevelsIn
+    levels-with small =
+        tab-of (kind .levels) (λ i. levelWith kind i (recordWith kind number more levels)) levels (pos 0) long (level-with small)
 
 -- where the kind has a QP, it stands behind the number
 pub qp-with : (kind : Kind) (number qp : ℕ) (more : List ℕ) (levels : List ℤ) → qpIn (recordWith kind number (qp ∷ more) levels) ≡ qp
@@ -210,30 +213,17 @@ qp-with kind number qp more levels = refl
 
 -- ---- a macroblock's record, 4x4
 
--- the levels stood in their place already
-pub sealed : (number qp : ℕ) (modes : List ℕ) (levels : List ℤ) (d : List ℕ) → take (2 * inFours .levels) (drop (inFours .front) d) ≡ levelBytes levels
-    → summed (frontOf number qp modes ++ take (2 * inFours .levels) (drop (inFours .front) d)) ≡ recordOf number qp modes levels
-unfolding recordOf frontOf
-sealed number qp modes levels d e =
-    sealed-with inFours number ((qp ∷ []) ++ packed 8 modes) levels (take (2 * inFours .levels) (drop (inFours .front) d)) e
-
--- block by block
-pub levels-parts : (n : ℕ) (blocks : ℕ → List ℤ) → levelBytes (parts n blocks) ≡ parts n (λ b. levelBytes (blocks b))
-unfolding parts levelBytes
-levels-parts zero blocks = refl
-levels-parts (suc n) blocks = levels-append (parts n blocks) (blocks n) ∙ ap (λ (l : List ℕ). l ++ levelBytes (blocks n)) (levels-parts n blocks)
-
 module _ (number qp : ℕ) (modes : List ℕ) (levels : List ℤ) where
   pub qp-back : qpIn (recordOf number qp modes levels) ≡ qp
   unfolding recordOf
   qp-back = qp-with inFours number qp (packed 8 modes) levels
 
   pub mode-back : ((k : ℕ) → getD modes k 0 < 16) → (block : ℕ) → block < 16 → modeIn block (recordOf number qp modes levels) ≡ getD modes block 0
-  unfolding recordOf recordWith summed frontOf
+  unfolding recordOf recordWith summed
   mode-back small block h =
       let R = recordOf number qp modes levels in
       let P = packed 8 modes in
-      let S = bytesOf (recordSum (frontOf number qp modes ++ levelBytes levels)) in
+      let S = bytesOf (recordSum (frontWith inFours number (qp ∷ packed 8 modes) ++ levelBytes levels)) in
       let l = length-packed modes 8 in
       let a : getD R (5 + block / 2) 0 ≡ getD P (block / 2) 0 =
       sym (getD-drop 5 R (block / 2) 0)
@@ -241,22 +231,26 @@ module _ (number qp : ℕ) (modes : List ℕ) (levels : List ℤ) where
       ∙ List·getD-append P (levelBytes levels) 0 (block / 2) (omega arith) in
       ap (unpaired block) a ∙ packed-back modes small 8 block (omega arith)
 
-  fours-front : 4 + length ((qp ∷ []) ++ packed 8 modes) ≡ inFours .front
+  pub not-whole : isWhole (recordOf number qp modes levels) ≡ false
+  unfolding recordOf
+  not-whole = ne-eqb _ (inWhole .mark) (λ e. let z = sym (mark-with inFours number (qp ∷ packed 8 modes) levels) ∙ e in omega (arith, z))
+
+  fours-front : 4 + length (qp ∷ packed 8 modes) ≡ inFours .front
   fours-front = omega (arith, length-packed modes 8)
 
   module _ (long : length levels ≡ inFours .levels) where
     pub length-record : length (recordOf number qp modes levels) ≡ lengthOf inFours
     unfolding recordOf
-    length-record = length-with inFours number ((qp ∷ []) ++ packed 8 modes) levels fours-front long
+    length-record = length-with inFours number (qp ∷ packed 8 modes) levels fours-front long
 
     pub own-record : Own number (recordOf number qp modes levels)
     unfolding recordOf
-    own-record = own-with inFours number ((qp ∷ []) ++ packed 8 modes) levels fours-front long fours
+    own-record = own-with inFours number (qp ∷ packed 8 modes) levels fours-front long fours
 
     module _ (small : (k : ℕ) → SFits w16 (getD levels k (pos 0))) where
       pub level-back : (block k : ℕ) → block < 16 → k < 16 → levelIn block k (recordOf number qp modes levels) ≡ getD levels (16 * block + k) (pos 0)
       unfolding recordOf
-      level-back block k h l = level-with inFours number ((qp ∷ []) ++ packed 8 modes) levels fours-front long small (16 * block + k) (omega arith)
+      level-back block k h l = level-with inFours number (qp ∷ packed 8 modes) levels fours-front long small (16 * block + k) (omega arith)
 
       pub levels-back : (block : ℕ) → block < 16 → levelsIn block (recordOf number qp modes levels) ≡ take 16 (drop (16 * block) levels)
       unfolding levelsIn
@@ -264,6 +258,34 @@ module _ (number qp : ℕ) (modes : List ℕ) (levels : List ℤ) where
           tab-of 16 (λ k. levelIn block k (recordOf number qp modes levels)) (take 16 (drop (16 * block) levels)) (pos 0)
           (length-take-le 16 (drop (16 * block) levels) (omega (arith, length-drop (16 * block) levels)))
           (λ k l. level-back block k h l ∙ sym (getD-take 16 (drop (16 * block) levels) k (pos 0) l ∙ getD-drop (16 * block) levels k (pos 0)))
+
+-- ---- a macroblock's record, 16x16
+
+module _ (number qp mode : ℕ) (levels : List ℤ) where
+  pub whole-qp-back : qpIn (recordWhole number qp mode levels) ≡ qp
+  unfolding recordWhole
+  whole-qp-back = qp-with inWhole number qp (mode ∷ []) levels
+
+  pub whole-mode-back : wholeModeIn (recordWhole number qp mode levels) ≡ mode
+  unfolding recordWhole recordWith summed
+  whole-mode-back = refl
+
+  pub is-whole : isWhole (recordWhole number qp mode levels) ≡ true
+  unfolding recordWhole
+  is-whole = eq-eqb _ (inWhole .mark) (mark-with inWhole number (qp ∷ mode ∷ []) levels)
+
+  module _ (long : length levels ≡ inWhole .levels) where
+    pub length-whole : length (recordWhole number qp mode levels) ≡ lengthOf inWhole
+    unfolding recordWhole
+    length-whole = length-with inWhole number (qp ∷ mode ∷ []) levels refl long
+
+    pub own-whole : Own number (recordWhole number qp mode levels)
+    unfolding recordWhole
+    own-whole = own-with inWhole number (qp ∷ mode ∷ []) levels refl long wholes
+
+    pub whole-levels-back : ((k : ℕ) → SFits w16 (getD levels k (pos 0))) → allLevelsIn inWhole (recordWhole number qp mode levels) ≡ levels
+    unfolding recordWhole
+    whole-levels-back small = levels-with inWhole number (qp ∷ mode ∷ []) levels refl long small
 
 -- ---- records one behind the other, each of any kind
 

@@ -1,20 +1,23 @@
 -- What a record's kind says of it.
+--     found                         what holds of every kind holds of one that a mark names
 --     front-known, length-known     a known kind's front holds mark and number, so its record has six bytes or more
+--     longest-known                 no kind's record is longer than that of the 4x4 kind
 --     unknown-none, known-some      a mark names no kind exactly if its record has no length
---     length-fours, length-none     the lengths, by the mark
+--     length-named, length-none     the lengths, by the mark
 --     kind-known                    a mark that is known is a kind's
 --     length-cut, length-there      the length of the record that bytes begin with
---     fours, only-fours             the kind there is, by its mark, and that there is no other
+--     fours, wholes                 the kinds there are, by their marks: what a law over a kind asks
+--     kind-whole, kind-fours        and that there are no others: by its mark a record is of the 16x16 kind or of the 4x4 kind
 -- Assumes nothing.
-use mathlib.Core.Path.{_≡_, refl, sym}
+use mathlib.Core.Path.{_≡_, refl, sym, ap, subst, _∙_}
 use mathlib.Core.Bool.{Bool, true, false, cond}
 use mathlib.Core.List.{List, [], _∷_}
 use Prim.Native.Nat.{ℕ, _<_, _≤_}
 use native.Mathlib.Omega.{arith}
-use borrow.Author.Tests.{eq-eqb, ne-eqb, le-leb, lt-leb}
+use borrow.Author.Tests.{ne-eqb, le-leb, lt-leb}
 use lib.Dec.{eqb}
 use lib.ListN.{length}
-use Rattle.record.specs.Kinds.{lengthOf, inFours, kinds, Known, unknown, known, kindIn, kindOf, isKnown, lengthKnown, recordLength}
+use Rattle.record.specs.Kinds.{lengthOf, inFours, inWhole, kinds, Known, unknown, known, kindIn, kindOf, isKnown, lengthKnown, recordLength}
 use Rattle.record.specs.Numbers.{numberAt}
 use Rattle.record.specs.Records.{lengthIn}
 use Rattle.record.specs.declared.Kind.{Kind}
@@ -25,13 +28,14 @@ pub fours : kindOf (inFours .mark) ≡ known inFours
 unfolding kindOf
 fours = refl
 
--- every kind has a front of four bytes or more
-abbrev Fronts : List Kind → Type 0
-Fronts [] = Unit {0}
-Fronts (k ∷ ks) = (4 ≤ k .front) × Fronts ks
+pub wholes : kindOf (inWhole .mark) ≡ known inWhole
+unfolding kindOf
+wholes = refl
 
-fronts : Fronts kinds
-fronts = (omega arith, tt)
+-- what holds of every kind of a list
+abbrev All : (P : Kind → Type 0) → List Kind → Type 0
+All P [] = Unit {0}
+All P (k ∷ ks) = P k × All P ks
 
 unknown-not-known : {k : Kind} → unknown ≡ known k → ⊥
 unknown-not-known e = let z : _≡_ {A = ℕ} 0 1 = cc in omega arith
@@ -44,37 +48,44 @@ known-inner e = cc
 
 -- ---- a kind that a mark names
 
-found-front : (ks : List Kind) → Fronts ks → (mark : ℕ) (k : Kind) → kindIn ks mark ≡ known k → 4 ≤ k .front
-found-front [] h mark k e = absurd (unknown-not-known e)
-found-front (j ∷ ks) h mark k e = by (found-front ks (h .1) mark k) (eqb mark (j .mark)) e
+found : (P : Kind → Type 0) (ks : List Kind) → All P ks → (mark : ℕ) (k : Kind) → kindIn ks mark ≡ known k → P k
+found P [] h mark k e = absurd (unknown-not-known e)
+found P (j ∷ ks) h mark k e = by (found P ks (h .1) mark k) (eqb mark (j .mark)) e
   where
-    by : (kindIn ks mark ≡ known k → 4 ≤ k .front) → (b : Bool) → cond b (known j) (kindIn ks mark) ≡ known k → 4 ≤ k .front
-    by rest true q = rw (sym (known-inner q)) (h .0)
+    by : (kindIn ks mark ≡ known k → P k) → (b : Bool) → cond b (known j) (kindIn ks mark) ≡ known k → P k
+    by rest true q = subst P (known-inner q) (h .0)
     by rest false q = rest q
 
-module _ (mark : ℕ) where
-  pub front-known : (k : Kind) → kindOf mark ≡ known k → 4 ≤ k .front
+module _ (mark : ℕ) (k : Kind) (is : kindOf mark ≡ known k) where
+  pub front-known : 4 ≤ k .front
   unfolding kindOf
-  front-known k e = found-front kinds fronts mark k e
+  front-known = found (λ j. 4 ≤ j .front) kinds (omega arith, (omega arith, tt)) mark k is
 
-  -- there is no kind but the one
-  pub only-fours : (k : Kind) → kindOf mark ≡ known k → k ≡ inFours
+  pub longest-known : lengthOf k ≤ lengthOf inFours
   unfolding kindOf
-  only-fours k e = by (eqb mark (inFours .mark)) e
+  longest-known = found (λ j. lengthOf j ≤ lengthOf inFours) kinds (omega arith, (omega arith, tt)) mark k is
+
+  -- there are no kinds but the two
+  pub kind-whole : mark ≡ inWhole .mark → k ≡ inWhole
+  kind-whole e = known-inner (sym is ∙ ap kindOf e ∙ wholes)
+
+  pub kind-fours : (mark ≡ inWhole .mark → ⊥) → k ≡ inFours
+  unfolding kindOf
+  kind-fours n = by (eqb mark (inFours .mark)) (sym (rw (ne-eqb mark (inWhole .mark) n) at (sym is)))
     where
       by : (b : Bool) → cond b (known inFours) unknown ≡ known k → k ≡ inFours
       by true q = sym (known-inner q)
       by false q = absurd (unknown-not-known q)
 
+module _ (mark : ℕ) where
   -- ---- its length
 
-  pub length-fours : mark ≡ inFours .mark → recordLength mark ≡ lengthOf inFours
-  unfolding kindOf
-  length-fours e = simp (eq-eqb mark (inFours .mark) e)
+  pub length-named : (k : Kind) → kindOf (k .mark) ≡ known k → mark ≡ k .mark → recordLength mark ≡ lengthOf k
+  length-named k is e = ap recordLength e ∙ ap lengthKnown is
 
-  pub length-none : (mark ≡ inFours .mark → ⊥) → recordLength mark ≡ 0
+  pub length-none : (mark ≡ inFours .mark → ⊥) → (mark ≡ inWhole .mark → ⊥) → recordLength mark ≡ 0
   unfolding kindOf
-  length-none n = simp (ne-eqb mark (inFours .mark) n)
+  length-none n m = simp (ne-eqb mark (inFours .mark) n, ne-eqb mark (inWhole .mark) m)
 
   pub unknown-none : recordLength mark < 1 → isKnown (kindOf mark) ≡ false
   unknown-none e = by (kindOf mark) e
@@ -95,7 +106,7 @@ module _ (mark : ℕ) where
     where
       by : (k : Known) → kindOf mark ≡ k → isKnown k ≡ true → 6 ≤ lengthKnown k
       by unknown p q = absurd (false-not-true q)
-      by (known k) p q = omega (arith, front-known k p)
+      by (known k) p q = omega (arith, front-known mark k p)
 
   pub kind-known : isKnown (kindOf mark) ≡ true → (k : Kind) × (kindOf mark ≡ known k)
   kind-known e = by (kindOf mark) refl e

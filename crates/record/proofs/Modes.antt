@@ -1,19 +1,17 @@
 -- Modes in bytes.
 --     shifted-up, masked, shifted-down     the code's shifts and masks
---     packed-more, length-packed           one byte more; how many there are
+--     length-packed                        how many bytes there are
 --     packed-back                          what is packed comes back
 -- Assumes nothing.
 use mathlib.Core.Path.{_≡_, refl, ap, _∙_}
 use mathlib.Core.Bool.{Bool, true, false, cond}
-use mathlib.Core.List.{List, [], _∷_, _++_}
+use mathlib.Core.List.{List}
 use Prim.Native.Nat.{ℕ, _+_, _*_, _/_, _%_, _<_}
-use native.Mathlib.Numerals.{add-one}
 use native.Mathlib.Omega.{arith}
 use borrow.Author.Tests.{eqb-true, eqb-false, eq-eqb, ne-eqb}
 use lib.Bits.{bitAnd, bitOr, and-mask, or-shifted-r}
 use lib.Dec.{eqb}
 use lib.ListN.{length, getD}
-use Rattle.lists.specs.Tab.{tab}
 use Rattle.lists.proofs.Tab.{length-tab, getD-tab}
 use Rattle.record.specs.Modes.{paired, packed, unpaired}
 
@@ -32,10 +30,6 @@ module _ (modes : List ℕ) where
   -- byte k
   abbrev pairAt : ℕ → ℕ
   pairAt k = paired (getD modes (2 * k) 0) (getD modes (2 * k + 1) 0)
-
-  pub packed-more : (n : ℕ) → packed (n + 1) modes ≡ packed n modes ++ (pairAt n ∷ [])
-  unfolding packed tab
-  packed-more n = rw (add-one n)
 
   pub length-packed : (n : ℕ) → length (packed n modes) ≡ n
   unfolding packed

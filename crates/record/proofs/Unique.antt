@@ -2,6 +2,7 @@
 use mathlib.Core.Path.{refl, sym, _∙_}
 use mathlib.Core.List.{List}
 use Prim.Native.Nat.{ℕ}
+use lib.IntN.{ℤ}
 use denote.Ref.{now}
 use Rattle.unique.specs.Unique.{Unique}
 use Rattle.refusal.proofs.Same.{same-answer, says-same}
@@ -10,24 +11,30 @@ use Rattle.record.proofs.read_head.Kinds as read-head
 use Rattle.record.proofs.read_head.Reads as read-head-reads
 use Rattle.record.proofs.inner.size_holds.Kinds as size-holds
 use Rattle.record.proofs.inner.size_holds.Reads as size-holds-reads
-use Rattle.record.proofs.inner.fours.Kinds as fours
-use Rattle.record.proofs.inner.fours.Reads as fours-reads
 use Rattle.record.proofs.inner.fours_length.Kinds as fours-length
 use Rattle.record.proofs.inner.fours_length.Reads as fours-length-reads
-use Rattle.record.proofs.inner.file_length.Kinds as file-length
-use Rattle.record.proofs.inner.file_length.Reads as file-length-reads
+use Rattle.record.proofs.inner.whole_length.Kinds as whole-length
+use Rattle.record.proofs.inner.whole_length.Reads as whole-length-reads
+use Rattle.record.proofs.inner.area_length.Kinds as area-length
+use Rattle.record.proofs.inner.area_length.Reads as area-length-reads
 use Rattle.record.proofs.inner.write_head.Kinds as write-head
 use Rattle.record.proofs.inner.write_head.Reads as write-head-reads
-use Rattle.record.proofs.inner.write_levels.Kinds as write-levels
-use Rattle.record.proofs.inner.write_levels.Reads as write-levels-reads
-use Rattle.record.proofs.inner.seal.Kinds as seal
-use Rattle.record.proofs.inner.seal.Reads as seal-reads
+use Rattle.record.proofs.inner.write_fours.Kinds as write-fours
+use Rattle.record.proofs.inner.write_fours.Reads as write-fours-reads
+use Rattle.record.proofs.inner.write_whole.Kinds as write-whole
+use Rattle.record.proofs.inner.write_whole.Reads as write-whole-reads
 use Rattle.record.proofs.inner.qp.Kinds as qp
 use Rattle.record.proofs.inner.qp.Reads as qp-reads
+use Rattle.record.proofs.inner.is_whole.Kinds as is-whole
+use Rattle.record.proofs.inner.is_whole.Reads as is-whole-reads
+use Rattle.record.proofs.inner.whole_mode.Kinds as whole-mode
+use Rattle.record.proofs.inner.whole_mode.Reads as whole-mode-reads
 use Rattle.record.proofs.inner.mode.Kinds as mode
 use Rattle.record.proofs.inner.mode.Reads as mode-reads
 use Rattle.record.proofs.inner.block_levels.Kinds as block-levels
 use Rattle.record.proofs.inner.block_levels.Reads as block-levels-reads
+use Rattle.record.proofs.inner.whole_levels.Kinds as whole-levels
+use Rattle.record.proofs.inner.whole_levels.Reads as whole-levels-reads
 use Rattle.record.proofs.inner.length_from.Kinds as length-from
 use Rattle.record.proofs.inner.length_from.Reads as length-from-reads
 use Rattle.record.proofs.inner.walked.Kinds as walked
@@ -43,32 +50,41 @@ read-head-unique κs a x y e f p q = (
 pub size-holds-unique : Unique 0 size-holds.ps size-holds.r size-holds-reads.Learnt (Unit {0}) (λ κs e. tt)
 size-holds-unique κs a x y e f p q = (p ∙ sym q, refl)
 
-pub fours-unique : Unique 0 fours.ps fours.r fours-reads.Learnt (Unit {0}) (λ κs e. tt)
-fours-unique κs a x y e f p q = (p ∙ sym q, refl)
-
 pub fours-length-unique : Unique 0 fours-length.ps fours-length.r fours-length-reads.Learnt (Unit {0}) (λ κs e. tt)
 fours-length-unique κs a x y e f p q = (p ∙ sym q, refl)
 
-pub file-length-unique : Unique 0 file-length.ps file-length.r file-length-reads.Learnt (Unit {0}) (λ κs e. tt)
-file-length-unique κs a x y e f p q = (p ∙ sym q, refl)
+pub whole-length-unique : Unique 0 whole-length.ps whole-length.r whole-length-reads.Learnt (Unit {0}) (λ κs e. tt)
+whole-length-unique κs a x y e f p q = (p ∙ sym q, refl)
+
+pub area-length-unique : Unique 0 area-length.ps area-length.r area-length-reads.Learnt (Unit {0}) (λ κs e. tt)
+area-length-unique κs a x y e f p q = (p ∙ sym q, refl)
 
 pub write-head-unique : Unique 1 write-head.ps write-head.r write-head-reads.Learnt (List ℕ) (λ κs e. now (e .1 .1 .0))
 write-head-unique κs a x y e f p q = (p .1 ∙ sym (q .1), p .0 ∙ sym (q .0))
 
-pub write-levels-unique : Unique 2 write-levels.ps write-levels.r write-levels-reads.Learnt (List ℕ) (λ κs e. now (e .1 .0))
-write-levels-unique κs a x y e f p q = (refl, p ∙ sym q)
+pub write-fours-unique : Unique 2 write-fours.ps write-fours.r write-fours-reads.Learnt (List ℕ) (λ κs e. now (e .1 .1 .1 .1 .0))
+write-fours-unique κs a x y e f p q = (refl, p ∙ sym q)
 
-pub seal-unique : Unique 1 seal.ps seal.r seal-reads.Learnt (List ℕ) (λ κs e. now (e .1 .1 .1 .0))
-seal-unique κs a x y e f p q = (refl, p ∙ sym q)
+pub write-whole-unique : Unique 2 write-whole.ps write-whole.r write-whole-reads.Learnt (List ℕ) (λ κs e. now (e .1 .1 .1 .1 .0))
+write-whole-unique κs a x y e f p q = (refl, p ∙ sym q)
 
 pub qp-unique : Unique 1 qp.ps qp.r qp-reads.Learnt (Unit {0}) (λ κs e. tt)
 qp-unique κs a x y e f p q = (p ∙ sym q, refl)
+
+pub is-whole-unique : Unique 1 is-whole.ps is-whole.r is-whole-reads.Learnt (Unit {0}) (λ κs e. tt)
+is-whole-unique κs a x y e f p q = (p ∙ sym q, refl)
+
+pub whole-mode-unique : Unique 1 whole-mode.ps whole-mode.r whole-mode-reads.Learnt (Unit {0}) (λ κs e. tt)
+whole-mode-unique κs a x y e f p q = (p ∙ sym q, refl)
 
 pub mode-unique : Unique 1 mode.ps mode.r mode-reads.Learnt (Unit {0}) (λ κs e. tt)
 mode-unique κs a x y e f p q = (p ∙ sym q, refl)
 
 pub block-levels-unique : Unique 1 block-levels.ps block-levels.r block-levels-reads.Learnt (Unit {0}) (λ κs e. tt)
 block-levels-unique κs a x y e f p q = (p ∙ sym q, refl)
+
+pub whole-levels-unique : Unique 2 whole-levels.ps whole-levels.r whole-levels-reads.Learnt (List ℤ) (λ κs e. now (e .1 .0))
+whole-levels-unique κs a x y e f p q = (refl, p ∙ sym q)
 
 pub length-from-unique : Unique 1 length-from.ps length-from.r length-from-reads.Learnt (Unit {0}) (λ κs e. tt)
 length-from-unique κs a x y e f p q = (p ∙ sym q, refl)

@@ -9,33 +9,35 @@
 --     walk-breaks-exactly-if     it stops at a record exactly if this one is faulty and none before it is
 --     form-passes-exactly-if, form-refuses-exactly-if     what is sent back: the first fault, or that bytes are left
 --     place-none, place-more, place-next     where the first record begins, and the next
---     end-known, record-sound, Lent, lent, lent-fours     what code needs to lend record m of a walk that came through
+--     end-known, record-sound, Lent, lent     what code needs to lend record m of a walk that came through
+--     lent-whole, lent-fours     how long it is, by its kind
 -- Assumes nothing.
 use mathlib.Core.Path.{_≡_, refl, sym, ap, subst, _∙_}
+use mathlib.Core.Bool.{true, false}
 use mathlib.Core.List.{List}
 use mathlib.Core.Logic.{_⊎_, inl, inr, ⊎-elim, _↔_}
 use Prim.Native.Nat.{ℕ, zero, suc, _+_, _-_, _<_, _≤_}
 use native.Mathlib.Numerals.{add-one}
 use native.Mathlib.Omega.{arith}
-use borrow.Author.Tests.{le-leb, lt-leb, leb-true, leb-false}
+use borrow.Author.Tests.{le-leb, lt-leb, leb-true, leb-false, eqb-true, eqb-false}
 use lib.ListN.{length, take, drop, length-drop}
-use lib.Seq.{getD-drop, length-take-le}
+use lib.Seq.{getD-drop, getD-take, length-take-le}
 use Rattle.lists.specs.Chain.{Verdict, pass, stop, chain, RefusedWith}
 use Rattle.lists.specs.Fold.{fold}
 use Rattle.lists.proofs.Chain.{pass-not-stop, chain-exactly-if}
 use Rattle.lists.proofs.Fold.{fold-more}
 use Rattle.refusal.specs.declared.Refusal.{Refusal}
 use Rattle.record.specs.Faults.{formTests, formed, formOf, stepped, onward, walkOf, refusalOf, surplus, leftTests, walkSaid}
-use Rattle.record.specs.Kinds.{lengthOf, inFours, known, kindOf}
+use Rattle.record.specs.Kinds.{lengthOf, inFours, inWhole, known, kindOf}
 use Rattle.record.specs.Numbers.{numberAt}
-use Rattle.record.specs.Records.{lengthFrom, recordAt, recordPlace}
+use Rattle.record.specs.Records.{isWhole, lengthFrom, recordAt, recordPlace}
 use Rattle.record.specs.declared.Fault.{Fault}
 use Rattle.record.specs.declared.Form.the-variants.{Fine}
 use Rattle.record.specs.declared.Kind.{Kind}
 use Rattle.record.specs.declared.Walk.{Walk}
 use Rattle.record.specs.declared.Walk.the-variants.{Whole, Broken}
 use Rattle.record.proofs.Forms.{FineForm, passed-sound, fine-sound}
-use Rattle.record.proofs.Marks.{only-fours}
+use Rattle.record.proofs.Marks.{front-known, kind-whole, kind-fours}
 
 -- a number from a place on
 pub number-drop : (file : List ℕ) (place k : ℕ) → numberAt k (drop place file) ≡ numberAt (place + k) file
@@ -95,9 +97,27 @@ module _ (file : List ℕ) where
     pub part : take (place + long - place) (drop place file) ≡ recordAt place file
     pub all : length (recordAt place file) ≡ lengthOf kind
 
-  -- while there is one kind, it is this one
-  pub lent-fours : {place long : ℕ} → Lent place long → length (take (place + long - place) (drop place file)) ≡ lengthOf inFours
-  lent-fours {place} {long} l = ap length (l .part) ∙ l .all ∙ ap lengthOf (only-fours (numberAt place file) (l .kind) (l .named))
+  -- and so of which kind it is
+  module _ {place long : ℕ} (l : Lent place long) where
+    abbrev lentPart : List ℕ
+    lentPart = take (place + long - place) (drop place file)
+
+    lent-mark : numberAt 0 lentPart ≡ numberAt place file
+    lent-mark =
+        let h : 6 ≤ place + long - place = omega (arith, l .is-long, front-known (numberAt place file) (l .kind) (l .named)) in
+        rw (getD-take (place + long - place) (drop place file) 0 0 (omega (arith, h)), getD-take (place + long - place) (drop place file) 1 0 (omega (arith, h)))
+        (mark-drop file place)
+
+    lent-long : length lentPart ≡ lengthOf (l .kind)
+    lent-long = ap length (l .part) ∙ l .all
+
+    pub lent-whole : isWhole lentPart ≡ true → length lentPart ≡ lengthOf inWhole
+    lent-whole e =
+        lent-long ∙ ap lengthOf (kind-whole (numberAt place file) (l .kind) (l .named) (sym lent-mark ∙ eqb-true (numberAt 0 lentPart) (inWhole .mark) e))
+
+    pub lent-fours : isWhole lentPart ≡ false → length lentPart ≡ lengthOf inFours
+    lent-fours e =
+        lent-long ∙ ap lengthOf (kind-fours (numberAt place file) (l .kind) (l .named) (λ q. eqb-false (numberAt 0 lentPart) (inWhole .mark) e (lent-mark ∙ q)))
 
   -- ---- where a walk stands
 

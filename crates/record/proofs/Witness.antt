@@ -10,7 +10,7 @@ use Rattle.lists.specs.Tab.{tab}
 use Rattle.refusal.specs.Number.{number}
 use Rattle.record.specs.Entry.{headTests, sizeHolds}
 use Rattle.record.specs.Faults.{formTests, formOf, walkOf}
-use Rattle.record.specs.Kinds.{lengthOf, inFours, kindOf, recordLength}
+use Rattle.record.specs.Kinds.{kindOf, recordLength}
 use Rattle.record.specs.Modes.{packed}
 use Rattle.record.specs.Numbers.{levelBytes}
 use Rattle.record.specs.Records.{headOf, recordOf, recordWith, summed, sumHolds, lengthIn}
@@ -25,18 +25,14 @@ pub heads-refused :
 unfolding headOf summed sumOf sumHolds sizeHolds
 heads-refused = refl
 
--- "Macroblock, 527 bytes": its kind's length is computed
-pub fours-length : lengthOf inFours ≡ 527
-fours-length = refl
-
--- a record's length by its mark, and none
-pub lengths : recordLength (77 * 256 + 66) ∷ recordLength (77 * 256 + 67) ∷ [] ≡ lengthOf inFours ∷ 0 ∷ []
+-- a record's length by its mark: "527 bytes", "520 bytes", and none
+pub lengths : recordLength (77 * 256 + 66) ∷ recordLength (77 * 256 + 54) ∷ recordLength (77 * 256 + 67) ∷ [] ≡ 527 ∷ 520 ∷ 0 ∷ []
 unfolding kindOf
 lengths = refl
 
 -- a file of a head's length and one byte, an unknown mark, a mark alone
 pub cuts :
-    walkOf 1 (0 ∷ 77 ∷ []) 1 ∷ walkOf 1 (0 ∷ 77 ∷ 0 ∷ []) 1 ∷ walkOf 1 (0 ∷ 77 ∷ 66 ∷ []) 1 ∷ walkOf 1 [] 1 ∷ []
+    walkOf 1 (0 ∷ 77 ∷ []) 1 ∷ walkOf 1 (0 ∷ 77 ∷ 0 ∷ []) 1 ∷ walkOf 1 (0 ∷ 77 ∷ 54 ∷ []) 1 ∷ walkOf 1 [] 1 ∷ []
     ≡ Broken CutMark 1 ∷ Broken Mark 1 ∷ Broken CutRest 1 ∷ Broken CutMark 1 ∷ []
 unfolding walkOf fold formOf kindOf lengthIn
 cuts = refl

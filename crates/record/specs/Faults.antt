@@ -1,7 +1,6 @@
--- The form of a file's records: document 01's tests are "record by record, mark, number, sum (9, place = the record's first byte)" ("What is
--- sent back, and in which order it is tested"). With request 01 come the others: "Per record now cut mark, mark, cut rest, number, sum;
--- bytes after the last record come at the end. A cut or surplus has the file length as place". A walk by the marks needs them, but while a
--- file's length is tested first ("file length (9, place = its length)") they hold in every file (theorem `no-cut`). Assumes nothing.
+-- The form of a file's records: "Per record now cut mark, mark, cut rest, number, sum; bytes after the last record come at the end. A cut or
+-- surplus has the file length as place" (02, request 01); mark, number and sum have "the record's first byte" (01, "What is sent back, and in
+-- which order it is tested"). Assumes nothing.
 use mathlib.Core.Bool.{false}
 use mathlib.Core.List.{List, [], _∷_}
 use Prim.Native.Nat.{ℕ, _+_}
@@ -22,7 +21,7 @@ use Rattle.record.specs.declared.Walk.the-variants.{Whole, Broken}
 use Rattle.record.specs.declared.Walk.{Walk}
 
 -- number and place of a fault in the record that begins at a place and is so long, in a file of so many bytes: mark, number and sum have
--- "the record's first byte" (01), a cut "the file length" (request 01)
+-- "the record's first byte" (01), a cut "the file length" (02, request 01)
 abbrev pub refusalOf : Fault → ℕ → ℕ → ℕ → Refusal
 refusalOf CutMark place long total = refusal.Form total
 refusalOf Mark place long total = refusal.Form place
@@ -30,12 +29,11 @@ refusalOf CutRest place long total = refusal.Form total
 refusalOf Number place long total = refusal.Form place
 refusalOf Sum place long total = refusal.Form place
 
--- bytes after the last record, in a file of so many bytes (request 01)
+-- bytes after the last record, in a file of so many bytes (02, request 01)
 abbrev pub surplus : ℕ → Refusal
 surplus total = refusal.Form total
 
--- the tests of the form of the record that these bytes begin with, in their order: mark, number and sum are document 01's, cut mark and cut
--- rest request 01's
+-- the tests of the form of the record that these bytes begin with: "cut mark, mark, cut rest, number, sum" (02, request 01)
 abbrev pub formTests : ℕ → List ℕ → List (Test Fault)
 formTests number bytes =
     test (leb 2 (length bytes)) CutMark
@@ -67,7 +65,7 @@ onward file number (Broken fault place) = Broken fault place
 unfoldable pub walkOf : ℕ → List ℕ → ℕ → Walk
 walkOf n file start = fold n (onward file) (Whole start)
 
--- behind the last record, at this place, nothing is left (request 01)
+-- behind the last record, at this place, nothing is left (02, request 01)
 abbrev pub leftTests : List ℕ → ℕ → List (Test Refusal)
 leftTests file place = test (leb (length file) place) (surplus (length file)) ∷ []
 

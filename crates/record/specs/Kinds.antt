@@ -1,5 +1,5 @@
 -- The kinds of records that follow a head: by its mark a record says of which kind it is, and so how long (01, "Plane and record
--- file"). Assumes nothing.
+-- file"; 02, request 01). Assumes nothing.
 use mathlib.Core.Bool.{Bool, true, false, cond}
 use mathlib.Core.List.{List, [], _∷_}
 use Prim.Native.Nat.{ℕ, _+_, _*_}
@@ -15,8 +15,13 @@ lengthOf kind = kind .front + 2 * kind .levels + 2
 abbrev pub inFours : Kind
 inFours = record { mark = 77 * 256 + 66; front = 5 + 8; levels = 256 }
 
+-- "520 bytes: mark 4D 36, number, QP, mode, 16 DC levels, 16 times 15 AC levels, sum" (02, request 01): before the levels stand the same
+-- five bytes and the mode
+abbrev pub inWhole : Kind
+inWhole = record { mark = 77 * 256 + 54; front = 5 + 1; levels = 256 }
+
 abbrev pub kinds : List Kind
-kinds = inFours ∷ []
+kinds = inFours ∷ inWhole ∷ []
 
 -- a mark may be none of a kind's
 pub data Known : Type 0 where

@@ -1,4 +1,4 @@
--- The records of the file (01, "Plane and record file"). Assumes nothing.
+-- The records of the file (01, "Plane and record file"; 02, request 01). Assumes nothing.
 use mathlib.Core.Bool.{Bool, cond}
 use mathlib.Core.List.{List, [], _∷_, _++_}
 use Prim.Native.Nat.{ℕ, _+_, _-_, _*_, _/_}
@@ -7,7 +7,7 @@ use lib.IntN.{ℤ}
 use lib.ListN.{length, take, drop, getD}
 use Rattle.lists.specs.Fold.{fold}
 use Rattle.lists.specs.Tab.{tab}
-use Rattle.record.specs.Kinds.{lengthOf, inFours, recordLength}
+use Rattle.record.specs.Kinds.{lengthOf, inFours, inWhole, recordLength}
 use Rattle.record.specs.Modes.{packed, unpaired}
 use Rattle.record.specs.Numbers.{bytesOf, numberAt, levelBytes, levelAt}
 use Rattle.record.specs.Sum.{recordSum}
@@ -45,13 +45,17 @@ recordWith kind number more levels = summed (frontWith kind number more ++ level
 abbrev pub levelWith : Kind → ℕ → List ℕ → ℤ
 levelWith kind i bytes = levelAt (kind .front + 2 * i) bytes
 
--- what stands before a macroblock's levels: "4D 42, number (2), QP (1), modes (8)"
-unfoldable pub frontOf : ℕ → ℕ → List ℕ → List ℕ
-frontOf number qp modes = frontWith inFours number ((qp ∷ []) ++ packed 8 modes)
+-- and all its levels
+unfoldable pub allLevelsIn : Kind → List ℕ → List ℤ
+allLevelsIn kind bytes = tab (kind .levels) (λ i. levelWith kind i bytes)
 
 -- "Macroblock, 527 bytes: 4D 42, number (2), QP (1), modes (8 ..), levels (512: block order, zigzag, signed 16 bits), sum."
 unfoldable pub recordOf : ℕ → ℕ → List ℕ → List ℤ → List ℕ
-recordOf number qp modes levels = recordWith inFours number ((qp ∷ []) ++ packed 8 modes) levels
+recordOf number qp modes levels = recordWith inFours number (qp ∷ packed 8 modes) levels
+
+-- "New record, 520 bytes: mark 4D 36, number, QP, mode, 16 DC levels, 16 times 15 AC levels, sum" (02, request 01)
+unfoldable pub recordWhole : (number qp mode : ℕ) → List ℤ → List ℕ
+recordWhole number qp mode levels = recordWith inWhole number (qp ∷ mode ∷ []) levels
 
 -- what a macroblock's record says, of whatever kind
 abbrev pub numberIn : List ℕ → ℕ
@@ -60,7 +64,15 @@ numberIn bytes = numberAt 2 bytes
 abbrev pub qpIn : List ℕ → ℕ
 qpIn bytes = getD bytes 4 0
 
--- and of the 4x4 kind alone
+-- of which of the two kinds it is, where it is of one
+abbrev pub isWhole : List ℕ → Bool
+isWhole bytes = eqb (numberAt 0 bytes) (inWhole .mark)
+
+-- of the 16x16 kind alone: its one mode
+abbrev pub wholeModeIn : List ℕ → ℕ
+wholeModeIn bytes = getD bytes 5 0
+
+-- and of the 4x4 kind alone: the mode of a block
 abbrev pub modeIn : ℕ → List ℕ → ℕ
 modeIn block bytes = unpaired block (getD bytes (5 + block / 2) 0)
 
@@ -91,6 +103,6 @@ recordAt place file = firstIn (drop place file)
 unfoldable pub recordPlace : ℕ → List ℕ → ℕ → ℕ
 recordPlace m file start = fold m (λ k place. place + lengthFrom place file) start
 
--- "The file is the head and each macroblock once, in order, nothing after": how long it is, of so many macroblocks
-abbrev pub fileLength : ℕ → ℕ
-fileLength count = headLength + lengthOf inFours * count
+-- "The area lent to the coder for the file counts 527 for each macroblock, with the head" (02, request 01)
+abbrev pub areaLength : ℕ → ℕ
+areaLength count = headLength + lengthOf inFours * count

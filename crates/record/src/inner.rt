@@ -1,18 +1,18 @@
 // Heads and macroblock records in lent parts, the form of a record, and the walk over records. Lengths are the caller's.
-ghost use mathlib.Core.List.{_++_};
+ghost use mathlib.Core.List.{_∷_};
 ghost use mathlib.Core.Path.{_≡_};
 ghost use Prim.Native.Nat.{ℕ, _+_, _-_, _*_, _<_, _≤_};
 ghost use lib.IntN.{pos};
-ghost use lib.ListN.{length, take, drop, getD};
+ghost use lib.ListN.{length, drop, getD};
 ghost use mir.Syntax.{w16};
 ghost use mir.Val.{SFits};
 ghost use Rattle.lists.specs.Parts.{over};
 ghost use Rattle.refusal.specs.Number.{said};
 ghost use Rattle.record.specs.Entry.{sizeHolds};
 ghost use Rattle.record.specs.Faults.{refusalOf, formOf, walkOf, walkSaid};
-ghost use Rattle.record.specs.Kinds.{lengthOf, inFours, recordLength};
+ghost use Rattle.record.specs.Kinds.{lengthOf, inFours, inWhole, recordLength};
 ghost use Rattle.record.specs.Numbers.{levelBytes, levelAt};
-ghost use Rattle.record.specs.Records.{summed, headLength, headOf, frontOf, qpIn, modeIn, levelIn, levelsIn, lengthFrom, fileLength};
+ghost use Rattle.record.specs.Records.{headLength, headOf, frontWith, recordWith, recordOf, recordWhole, allLevelsIn, qpIn, isWhole, wholeModeIn, modeIn, levelIn, levelsIn, lengthFrom, areaLength};
 use crate::Fault;
 use crate::Form;
 use crate::Kind;
@@ -30,6 +30,13 @@ pub(crate) const HEAD_LENGTH: usize = 8;
 const FOURS: Kind = Kind {
     mark: 77 * 256 + 66,
     front: 5 + 8,
+    levels: 256,
+};
+
+// A macroblock's record of 16x16: 4D 36; five bytes and the mode; sixteen DC levels and sixteen times fifteen AC levels.
+const WHOLE: Kind = Kind {
+    mark: 77 * 256 + 54,
+    front: 5 + 1,
     levels: 256,
 };
 
@@ -51,13 +58,6 @@ pub fn size_holds(width: usize, height: usize) -> bool
 
 // ---- lengths
 
-// The kind of a macroblock's record of 4x4 blocks.
-pub fn fours() -> Kind
-    ensures { λ r. ⌜ r ≡ inFours ⌝ }
-{
-    FOURS
-}
-
 // Front, levels of two bytes each, sum.
 fn length_of(kind: Kind) -> usize
     requires { ⌜ lengthOf kind < 65536 ⌝ }
@@ -73,10 +73,17 @@ pub fn fours_length() -> usize
     length_of(FOURS)
 }
 
-// How long the file of so many macroblocks is.
-pub fn file_length(count: usize) -> usize
+// How long a macroblock's record of 16x16 is.
+pub fn whole_length() -> usize
+    ensures { λ r. ⌜ r ≡ lengthOf inWhole ⌝ }
+{
+    length_of(WHOLE)
+}
+
+// How long the area is that the coder is lent for the file of so many macroblocks.
+pub fn area_length(count: usize) -> usize
     requires { ⌜ count ≤ 16384 ⌝ }
-    ensures { λ r. ⌜ r ≡ fileLength count ⌝ }
+    ensures { λ r. ⌜ r ≡ areaLength count ⌝ }
 {
     HEAD_LENGTH + fours_length() * count
 }
@@ -108,7 +115,7 @@ pub fn write_head(width: u16, height: u16, file: &mut [u8]) -> usize
 }
 
 // Levels, of whatever number, into two bytes each.
-pub fn write_levels(levels: &[i32], out: &mut [u8])
+fn write_levels(levels: &[i32], out: &mut [u8])
     requires { ⌜ (length (now out) ≡ 2 * length (now levels)) × ((k : ℕ) → SFits w16 (getD (now levels) k (pos 0))) ⌝ }
     ensures { λ _. ⌜ now (out .exit) ≡ levelBytes (now (levels .entry)) ⌝ }
 {
@@ -119,29 +126,51 @@ pub fn write_levels(levels: &[i32], out: &mut [u8])
     }
 }
 
-// What stands before a macroblock's levels, into its own bytes.
-fn write_front(number: u16, qp: u8, modes: [u8; 16], front: &mut [u8])
-    requires { ⌜ (length (now front) ≡ inFours .front) × ((k : ℕ) → getD modes k 0 < 16) ⌝ }
-    ensures { λ _. ⌜ now (front .exit) ≡ frontOf number qp modes ⌝ }
+// What stands before the levels of a record of a kind, into its own bytes: mark, number, QP, and what this kind has besides.
+fn write_front(kind: Kind, number: u16, qp: u8, more: &[u8], front: &mut [u8])
+    requires { ⌜ (length (now front) ≡ kind .front) × (5 + length (now more) ≡ kind .front) ⌝ }
+    ensures { λ _. ⌜ now (front .exit) ≡ frontWith kind number (qp ∷ now (more .entry)) ⌝ }
 {
-    front[0] = (FOURS.mark / 256) as u8;
-    front[1] = (FOURS.mark % 256) as u8;
+    let mark = kind.mark;
+    front[0] = (mark / 256) as u8;
+    front[1] = (mark % 256) as u8;
     front[2] = (number / 256) as u8;
     front[3] = (number % 256) as u8;
     front[4] = qp;
-    for k in 0usize..8 {
-        front[5 + k] = octets::pack(modes[2 * k], modes[2 * k + 1]);
-    }
+    bytes::copy(more, &mut front[5..]);
 }
 
-// Front and sum of a macroblock's record whose levels stand in their place already.
-pub fn seal(number: u16, qp: u8, modes: [u8; 16], part: &mut [u8])
-    requires { ⌜ (length (now part) ≡ lengthOf inFours) × ((k : ℕ) → getD modes k 0 < 16) ⌝ }
-    ensures { λ _. ⌜ now (part .exit) ≡ summed (frontOf number qp modes ++ take (2 * inFours .levels) (drop (inFours .front) (now (part .entry)))) ⌝ }
+// A record of a kind: front, levels, sum.
+fn write_record(kind: Kind, number: u16, qp: u8, more: &[u8], levels: &[i32], part: &mut [u8])
+    requires { ⌜ (length (now part) ≡ lengthOf kind) × (5 + length (now more) ≡ kind .front) ⌝ }
+    requires { ⌜ (length (now levels) ≡ kind .levels) × ((k : ℕ) → SFits w16 (getD (now levels) k (pos 0))) ⌝ }
+    ensures { λ _. ⌜ now (part .exit) ≡ recordWith kind number (qp ∷ now (more .entry)) (now (levels .entry)) ⌝ }
 {
-    let front = FOURS.front;
-    write_front(number, qp, modes, &mut part[0..front]);
+    let front = kind.front;
+    let end = front + 2 * kind.levels;
+    write_front(kind, number, qp, more, &mut part[0..front]);
+    write_levels(levels, &mut part[front..end]);
     octets::write_sum(part);
+}
+
+// A macroblock's record of 4x4 blocks.
+pub fn write_fours(number: u16, qp: u8, modes: [u8; 16], levels: &[i32], part: &mut [u8])
+    requires { ⌜ (length (now part) ≡ lengthOf inFours) × ((k : ℕ) → getD modes k 0 < 16) ⌝ }
+    requires { ⌜ (length (now levels) ≡ inFours .levels) × ((k : ℕ) → SFits w16 (getD (now levels) k (pos 0))) ⌝ }
+    ensures { λ _. ⌜ now (part .exit) ≡ recordOf number qp modes (now (levels .entry)) ⌝ }
+{
+    let more = octets::packed(modes);
+    write_record(FOURS, number, qp, &more, levels, part);
+}
+
+// A macroblock's record of 16x16.
+pub fn write_whole(number: u16, qp: u8, mode: u8, levels: &[i32], part: &mut [u8])
+    requires { ⌜ length (now part) ≡ lengthOf inWhole ⌝ }
+    requires { ⌜ (length (now levels) ≡ inWhole .levels) × ((k : ℕ) → SFits w16 (getD (now levels) k (pos 0))) ⌝ }
+    ensures { λ _. ⌜ now (part .exit) ≡ recordWhole number qp mode (now (levels .entry)) ⌝ }
+{
+    let more = [mode];
+    write_record(WHOLE, number, qp, &more, levels, part);
 }
 
 // ---- reading
@@ -151,6 +180,22 @@ pub fn qp(part: &[u8]) -> u8
     ensures { λ r. ⌜ r ≡ qpIn (now (part .entry)) ⌝ }
 {
     part[4]
+}
+
+// Whether a record, of one of the kinds, is of 16x16.
+pub fn is_whole(part: &[u8]) -> bool
+    requires { ⌜ 1 < length (now part) ⌝ }
+    ensures { λ r. ⌜ r ≡ isWhole (now (part .entry)) ⌝ }
+{
+    octets::number_at(part, 0) == WHOLE.mark
+}
+
+// The mode of a record of 16x16.
+pub fn whole_mode(part: &[u8]) -> u8
+    requires { ⌜ 5 < length (now part) ⌝ }
+    ensures { λ r. ⌜ r ≡ wholeModeIn (now (part .entry)) ⌝ }
+{
+    part[5]
 }
 
 // The mode of a block.
@@ -189,6 +234,16 @@ pub fn block_levels(part: &[u8], block: usize) -> [i32; 16]
     levels
 }
 
+// All levels of a record of 16x16: DC, then AC.
+pub fn whole_levels(part: &[u8], out: &mut [i32])
+    requires { ⌜ (length (now part) ≡ lengthOf inWhole) × (length (now out) ≡ inWhole .levels) ⌝ }
+    ensures { λ _. ⌜ now (out .exit) ≡ allLevelsIn inWhole (now (part .entry)) ⌝ }
+{
+    for i in 0usize..WHOLE.levels {
+        out[i] = level_at(part, WHOLE.front, i);
+    }
+}
+
 // ---- faults
 
 // Number and place of a fault in the record that begins at a place and is so long, in a file of so many bytes.
@@ -210,6 +265,9 @@ fn record_length(mark: u16) -> usize
 {
     if mark == FOURS.mark {
         return fours_length();
+    }
+    if mark == WHOLE.mark {
+        return whole_length();
     }
     0
 }

@@ -1,10 +1,10 @@
 // Numbers, levels, modes and sums in bytes.
 ghost use mathlib.Core.Path.{_≡_};
-ghost use Prim.Native.Nat.{_+_, _-_, _<_, _≤_};
-ghost use lib.ListN.{length, take};
+ghost use Prim.Native.Nat.{ℕ, _+_, _-_, _<_, _≤_};
+ghost use lib.ListN.{length, take, getD};
 ghost use mir.Syntax.{w16};
 ghost use mir.Val.{ofZ, toZ, SFits};
-ghost use Rattle.record.specs.Modes.{paired, unpaired};
+ghost use Rattle.record.specs.Modes.{paired, packed, unpaired};
 ghost use Rattle.record.specs.Numbers.{numberAt};
 ghost use Rattle.record.specs.Records.{summed, sumHolds};
 ghost use Rattle.record.specs.Sum.{recordSum};
@@ -53,6 +53,18 @@ pub(crate) fn pack(low: u8, high: u8) -> u8
     ensures { λ r. ⌜ r ≡ paired low high ⌝ }
 {
     low | (high << 4)
+}
+
+// Sixteen modes in eight bytes.
+pub(crate) fn packed(modes: [u8; 16]) -> [u8; 8]
+    requires { ⌜ ((k : ℕ) → getD modes k 0 < 16) ⌝ }
+    ensures { λ r. ⌜ r ≡ packed 8 modes ⌝ }
+{
+    let mut out = [0u8; 8];
+    for k in 0usize..8 {
+        out[k] = pack(modes[2 * k], modes[2 * k + 1]);
+    }
+    out
 }
 
 // The mode of a block, of the byte that holds it.

@@ -3,7 +3,8 @@
 --     own-numbers             levels in zigzag order rescale to what those in raster order do
 --     own-numbers-fit         so RANGE finds none
 --     own-levels-pass         and `rebuild` accepts them
---     ac-numbers, own-ac-pass     levels 1 to 15 with any DC of 16 bits: the block's own numbers, place 0 replaced; and `rebuild_with_dc` accepts them
+--     ac-numbers, ac-fit, own-ac-pass     levels 1 to 15 with any DC of 16 bits: the block's own numbers, place 0 replaced; RANGE finds none;
+--                             and `rebuild_with_dc` accepts them
 -- Assumes nothing.
 use mathlib.Core.Path.{_≡_, refl, sym, ap, subst, _∙_}
 use mathlib.Core.Bool.{true}
@@ -24,7 +25,7 @@ use Rattle.whole.specs.Bounds.{Within, Each}
 use Rattle.whole.specs.Notation.{minus}
 use Rattle.whole.specs.Range.{inside}
 use Rattle.whole.proofs.Bound.{abs-mul}
-use Rattle.whole.proofs.Lists.{each-tab, each-less}
+use Rattle.whole.proofs.Lists.{each-tab, each-less, each-drop}
 use Rattle.whole.proofs.Range.{within-inside, all-inside}
 use Rattle.whole.proofs.Steps.{each-at}
 use Rattle.transform.specs.Forward.{forward}
@@ -120,10 +121,6 @@ set-inside [] dc e h k = within-inside (minus 32768) (pos 32767) 32767 tt tt (ge
 set-inside (z ∷ d) dc e h zero = e
 set-inside (z ∷ d) dc e h (suc k) = within-inside (minus 32768) (pos 32767) 32767 tt tt (getD d k (pos 0)) (each-at 32767 d (h .1) k)
 
-each-rest : (B : ℕ) (l : List ℤ) → Each B l → Each B (drop 1 l)
-each-rest B [] h = tt
-each-rest B (z ∷ l) h = h .1
-
 module _ (qp : ℕ) (x : List ℤ) where
   pub length-quantized : length (quantized qp x) ≡ 16
   unfolding quantized
@@ -182,7 +179,7 @@ module _ (qp : ℕ) (legal : qp ≤ highest) (x : List ℤ) (small : Each 255 x)
     pub ac-numbers : rescaledWithDc qp dc (drop 1 (levelsOf qp x)) ≡ set (rescaledOf qp (levelsOf qp x)) 0 dc
     ac-numbers = other-levels qp (levelsOf qp x) (length-zigzag (quantized qp x)) dc
 
-    ac-fit : firstWide (inZigzag (rescaledWithDc qp dc (drop 1 (levelsOf qp x)))) ≡ 16
+    pub ac-fit : firstWide (inZigzag (rescaledWithDc qp dc (drop 1 (levelsOf qp x)))) ≡ 16
     ac-fit =
         let d = rescaledOf qp (levelsOf qp x) in
         zigzag-inside (rescaledWithDc qp dc (drop 1 (levelsOf qp x)))
@@ -194,7 +191,7 @@ module _ (qp : ℕ) (legal : qp ≤ highest) (x : List ℤ) (small : Each 255 x)
     own-ac-pass p o a b =
         let ac = drop 1 (levelsOf qp x) in
         let n : length ac ≡ 15 = omega (arith, length-drop 1 (levelsOf qp x), length-zigzag (quantized qp x)) in
-        let narrow = wide-none ac (each-less 1632 32767 ac (each-rest 1632 (levelsOf qp x) (own-levels-in-range .levels)) tt) in
+        let narrow = wide-none ac (each-less 1632 32767 ac (each-drop 1632 1 (levelsOf qp x) (own-levels-in-range .levels)) tt) in
         let first = levels-fine 15 1 qp (length p) ac (length o) n (lent-fine 16 qp (length p) (length o) a b legal) (omega (arith, narrow, n)) in
         chain-passed (levelTests 15 1 qp (length p) ac (length o)) (rangeTest (rescaledWithDc qp dc ac) ∷ []) first
         ∙ range-fine (rescaledWithDc qp dc ac) (omega (arith, ac-fit))

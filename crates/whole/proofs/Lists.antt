@@ -1,22 +1,24 @@
 -- Lists of whole numbers: bounds on each, numbers that are read back from their bits, and several results of straight-line code at once.
 --     each-less, each-from, each-tab, each-gather         bounds of a list
+--     each-take, each-drop, each-append, each-parts       of its parts, and of what is put together
 --     reads: plain, plain-fits, plain-gather             numbers read back from their bits are the numbers
 --     gather                                              the numbers at a list of places
 --     raws-of, ideals, expressions; oks, mosts            a list of `Code`, as `raw`, `ideal`, `expression`, `ok` and `most` of each
 --     exacts, sizes                                       each is exact; each is at most M
 -- Assumes nothing.
 use mathlib.Core.Path.{_≡_, refl, sym, subst}
-use mathlib.Core.List.{List, [], _∷_, map}
+use mathlib.Core.List.{List, [], _∷_, _++_, map}
 use mathlib.Core.Bool.{Bool, true, _&&_}
-use Prim.Native.Nat.{ℕ, suc, _^_, _<_}
+use Prim.Native.Nat.{ℕ, zero, suc, _^_, _<_}
 use native.Mathlib.Omega.{arith}
 use lib.IntN.{ℤ, pos}
-use lib.ListN.{length, getD}
+use lib.ListN.{length, getD, take, drop}
 use lib.Dec.{T, ltb, leb}
 use mir.Syntax.{Width}
 use mir.Val.{toZ, ofZ, SFits, hbits}
 use mir.ValLaws.{toZ-ofZ}
 use Rattle.lists.proofs.Every.{both-left, both-right}
+use Rattle.lists.specs.Parts.{parts}
 use Rattle.lists.specs.Tab.{tab}
 use Rattle.lists.proofs.Tab.{length-tab, getD-tab}
 use Rattle.whole.specs.Bounds.{Within, Each}
@@ -55,6 +57,26 @@ each-tab B n f h =
     (λ i l.
     let m : i < n = rw length-tab at l in
     subst (λ (z : ℤ). Within B z) (sym (getD-tab n f i (pos 0) m)) (h i m))
+
+-- of parts, and of what is put together
+pub each-take : (B n : ℕ) (l : List ℤ) → Each B l → Each B (take n l)
+each-take B zero l h = tt
+each-take B (suc n) [] h = tt
+each-take B (suc n) (z ∷ l) h = (h .0, each-take B n l (h .1))
+
+pub each-drop : (B n : ℕ) (l : List ℤ) → Each B l → Each B (drop n l)
+each-drop B zero l h = h
+each-drop B (suc n) [] h = tt
+each-drop B (suc n) (z ∷ l) h = each-drop B n l (h .1)
+
+pub each-append : (B : ℕ) (l r : List ℤ) → Each B l → Each B r → Each B (l ++ r)
+each-append B [] r h k = k
+each-append B (z ∷ l) r h k = (h .0, each-append B l r (h .1) k)
+
+pub each-parts : (B n : ℕ) (f : ℕ → List ℤ) → ((k : ℕ) → k < n → Each B (f k)) → Each B (parts n f)
+unfolding parts
+each-parts B zero f h = tt
+each-parts B (suc n) f h = each-append B (parts n f) (f n) (each-parts B n f (λ k l. h k (omega arith))) (h n (omega arith))
 
 -- the numbers of l at the places of a list of places
 abbrev pub gather : List ℕ → List ℤ → List ℤ

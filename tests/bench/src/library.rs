@@ -51,7 +51,11 @@ impl Codec for Proved {
         "proved library"
     }
 
-    fn code(&self, qp: u8, plane: &[u8], file: &mut [u8], rebuilt: &mut [u8]) {
+    fn both_kinds(&self) -> bool {
+        true
+    }
+
+    fn code(&self, qp: u8, plane: &[u8], area: &mut [u8], rebuilt: &mut [u8]) -> usize {
         // Each pointer comes with its slice's length.
         let word = unsafe {
             fb_code_plane(
@@ -60,13 +64,14 @@ impl Codec for Proved {
                 qp,
                 plane.as_ptr(),
                 plane.len(),
-                file.as_mut_ptr(),
-                file.len(),
+                area.as_mut_ptr(),
+                area.len(),
                 rebuilt.as_mut_ptr(),
                 rebuilt.len(),
             )
         };
-        assert_eq!(word, 256 * file.len() as u64);
+        assert_eq!(word % 256, 0);
+        (word / 256) as usize
     }
 
     fn decode(&self, file: &[u8], plane: &mut [u8]) {
@@ -86,7 +91,11 @@ impl Codec for Study {
         "speed study"
     }
 
-    fn code(&self, qp: u8, plane: &[u8], file: &mut [u8], rebuilt: &mut [u8]) {
+    fn both_kinds(&self) -> bool {
+        false
+    }
+
+    fn code(&self, qp: u8, plane: &[u8], area: &mut [u8], rebuilt: &mut [u8]) -> usize {
         // Each pointer comes with its slice's length; the study itself tests none, and they are those it takes.
         let answer = unsafe {
             study_code(
@@ -94,14 +103,15 @@ impl Codec for Study {
                 plane.len(),
                 rebuilt.as_mut_ptr(),
                 rebuilt.len(),
-                file.as_mut_ptr(),
-                file.len(),
+                area.as_mut_ptr(),
+                area.len(),
                 SIDE,
                 SIDE,
                 qp,
             )
         };
         assert_eq!(answer, 0);
+        area.len()
     }
 
     fn decode(&self, file: &[u8], plane: &mut [u8]) {
@@ -128,8 +138,12 @@ impl Codec for Reference {
         "reference"
     }
 
-    fn code(&self, qp: u8, plane: &[u8], file: &mut [u8], rebuilt: &mut [u8]) {
-        reference::code_plane(SIDE, SIDE, qp, plane, file, rebuilt).expect("the sizes are right");
+    fn both_kinds(&self) -> bool {
+        true
+    }
+
+    fn code(&self, qp: u8, plane: &[u8], area: &mut [u8], rebuilt: &mut [u8]) -> usize {
+        reference::code_plane(SIDE, SIDE, qp, plane, area, rebuilt).expect("the sizes are right")
     }
 
     fn decode(&self, file: &[u8], plane: &mut [u8]) {

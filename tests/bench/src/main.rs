@@ -1,17 +1,19 @@
-//! Times coder and decoder on a picture of 128x128 macroblocks, one thread: the proved library, the unproved study of its speed
-//! where it is there, and the reference, all in one run. Their files and planes must be the same.
+//! Times coder and decoder on pictures of 128x128 macroblocks, one thread: the proved library, the unproved study of its speed where it
+//! is there, and the reference, all in one run. Their files and planes must be the same; the study knows 4x4 records only.
 
 mod library;
+mod pictures;
 
 #[cfg(study)]
 use library::Study;
 use library::{Proved, Reference};
+use reference::{code_plane_by, Sads};
 use std::time::{Duration, Instant};
 
 /// In macroblocks: the largest picture.
 const SIDE: usize = 128;
 const SAMPLES: usize = 256 * SIDE * SIDE;
-const FILE: usize = 8 + 527 * SIDE * SIDE;
+const AREA: usize = 8 + 527 * SIDE * SIDE;
 const QPS: [u8; 2] = [28, 12];
 /// Each is run so often, in turns, and its best time counts: what else the machine does only ever adds to a time.
 const ROUNDS: usize = 12;
@@ -19,7 +21,10 @@ const ROUNDS: usize = 12;
 /// A coder and a decoder of pictures of SIDE times SIDE macroblocks.
 trait Codec {
     fn name(&self) -> &'static str;
-    fn code(&self, qp: u8, plane: &[u8], file: &mut [u8], rebuilt: &mut [u8]);
+    /// Whether it knows records of 16x16.
+    fn both_kinds(&self) -> bool;
+    /// Answers the bytes used of the file's area.
+    fn code(&self, qp: u8, plane: &[u8], area: &mut [u8], rebuilt: &mut [u8]) -> usize;
     fn decode(&self, file: &[u8], plane: &mut [u8]);
 }
 
@@ -35,65 +40,161 @@ fn main() {
          pages are there, and hold what the run before left: none clears them outside its time. The proved library clears the \
          rebuilt and the decoded plane itself, inside its time; the study and the reference do not."
     );
-    let plane = picture();
-    for qp in QPS {
-        let [code, decode] = times(&codecs, qp, &plane);
-        print_times("code", qp, &codecs, &code);
-        print_times("decode", qp, &codecs, &decode);
-    }
-}
-
-/// Slopes, edges and noise, different from macroblock to macroblock, so that every mode is chosen somewhere.
-fn picture() -> Vec<u8> {
-    let mut state = 0x5EEDu32;
-    let sample = |place: usize| {
-        let (x, y) = (place % (16 * SIDE), place / (16 * SIDE));
-        state = state.wrapping_mul(1664525).wrapping_add(1013904223);
-        let noise = state as usize >> 29;
-        let (right, down) = (x / 48 % 5, y / 48 % 7);
-        (right * x + down * y + (x * y) / 512 + noise) as u8
-    };
-    (0..SAMPLES).map(sample).collect()
-}
-
-/// The best time of each codec for coding and for decoding.
-fn times(codecs: &[Box<dyn Codec>], qp: u8, plane: &[u8]) -> [Vec<Duration>; 2] {
-    let mut best = [
-        vec![Duration::MAX; codecs.len()],
-        vec![Duration::MAX; codecs.len()],
-    ];
-    let (mut file, mut rebuilt, mut decoded) = (vec![1; FILE], vec![1; SAMPLES], vec![1; SAMPLES]);
-    let (mut first_file, mut first_rebuilt) = (vec![1; FILE], vec![1; SAMPLES]);
-    codecs[0].code(qp, plane, &mut first_file, &mut first_rebuilt);
-    for _ in 0..ROUNDS {
-        for (number, codec) in codecs.iter().enumerate() {
-            let started = Instant::now();
-            codec.code(qp, plane, &mut file, &mut rebuilt);
-            best[0][number] = best[0][number].min(started.elapsed());
-            let started = Instant::now();
-            codec.decode(&file, &mut decoded);
-            best[1][number] = best[1][number].min(started.elapsed());
-            let same = file == first_file && rebuilt == first_rebuilt && decoded == first_rebuilt;
-            assert!(same, "{} differs from {}", codec.name(), codecs[0].name());
+    for (name, plane) in [("busy", pictures::busy()), ("dial", pictures::dial())] {
+        for qp in QPS {
+            let mut bench = Bench::new(qp, &plane);
+            println!("\n{name}, QP {qp}: {}", bench.both.share());
+            bench.run(&codecs);
         }
     }
-    best
 }
 
-fn print_times(what: &str, qp: u8, codecs: &[Box<dyn Codec>], times: &[Duration]) {
-    let own = times
-        .last()
-        .expect("the proved library comes last")
-        .as_secs_f64();
+/// A record file with the plane that a decoder makes of it.
+struct Coded {
+    file: Vec<u8>,
+    rebuilt: Vec<u8>,
+}
+
+impl Coded {
+    /// What the reference makes of a plane where macroblocks take 16x16 by this choice.
+    fn new(takes_sixteen: fn(&Sads) -> bool, qp: u8, plane: &[u8]) -> Coded {
+        let (mut file, mut rebuilt) = (vec![0; AREA], vec![0; SAMPLES]);
+        let [area, plane_too] = [&mut file, &mut rebuilt];
+        let used = code_plane_by(takes_sixteen, SIDE, SIDE, qp, plane, area, plane_too);
+        file.truncate(used.expect("the sizes are right"));
+        Coded { file, rebuilt }
+    }
+
+    /// How many macroblocks are 16x16: each record is 7 bytes shorter.
+    fn share(&self) -> String {
+        let part = (AREA - self.file.len()) as f64 / (7 * SIDE * SIDE) as f64;
+        format!("{:.1} % of the macroblocks take 16x16", 100.0 * part)
+    }
+}
+
+/// A plane with its files and the buffers that are lent.
+struct Bench {
+    qp: u8,
+    plane: Vec<u8>,
+    /// Of both kinds of records, as the coder chooses; of one kind only.
+    both: Coded,
+    four: Coded,
+    sixteen: Coded,
+    area: Vec<u8>,
+    rebuilt: Vec<u8>,
+    decoded: Vec<u8>,
+}
+
+/// A task that is timed; none for a codec that cannot do it.
+type Task = fn(&mut Bench, &dyn Codec) -> Option<Duration>;
+
+const TASKS: [(&str, Task); 4] = [
+    ("code", Bench::code),
+    ("decode that", Bench::decode_own),
+    ("decode 4x4", Bench::decode_four),
+    ("decode 16x16", Bench::decode_sixteen),
+];
+
+impl Bench {
+    fn new(qp: u8, plane: &[u8]) -> Bench {
+        Bench {
+            qp,
+            plane: plane.to_vec(),
+            both: Coded::new(Sads::sixteen_wins, qp, plane),
+            four: Coded::new(|_| false, qp, plane),
+            sixteen: Coded::new(|_| true, qp, plane),
+            area: vec![1; AREA],
+            rebuilt: vec![1; SAMPLES],
+            decoded: vec![1; SAMPLES],
+        }
+    }
+
+    /// What a codec makes of the plane.
+    fn own(&self, codec: &dyn Codec) -> &Coded {
+        if codec.both_kinds() {
+            &self.both
+        } else {
+            &self.four
+        }
+    }
+
+    fn code(&mut self, codec: &dyn Codec) -> Option<Duration> {
+        let started = Instant::now();
+        let used = codec.code(self.qp, &self.plane, &mut self.area, &mut self.rebuilt);
+        let time = started.elapsed();
+        let own = self.own(codec);
+        let same = self.area[..used] == own.file && self.rebuilt == own.rebuilt;
+        assert!(same, "{} codes otherwise", codec.name());
+        Some(time)
+    }
+
+    fn decode_own(&mut self, codec: &dyn Codec) -> Option<Duration> {
+        match codec.both_kinds() {
+            true => Some(timed(codec, &self.both, &mut self.decoded)),
+            false => self.decode_four(codec),
+        }
+    }
+
+    fn decode_four(&mut self, codec: &dyn Codec) -> Option<Duration> {
+        Some(timed(codec, &self.four, &mut self.decoded))
+    }
+
+    fn decode_sixteen(&mut self, codec: &dyn Codec) -> Option<Duration> {
+        codec
+            .both_kinds()
+            .then(|| timed(codec, &self.sixteen, &mut self.decoded))
+    }
+
+    fn run(&mut self, codecs: &[Box<dyn Codec>]) {
+        let mut best: [Vec<Option<Duration>>; TASKS.len()] =
+            std::array::from_fn(|_| vec![None; codecs.len()]);
+        for _ in 0..ROUNDS {
+            for (number, codec) in codecs.iter().enumerate() {
+                for ((_, task), best) in TASKS.iter().zip(&mut best) {
+                    let time = task(self, codec.as_ref());
+                    best[number] = best[number].into_iter().chain(time).min();
+                }
+            }
+        }
+        for ((what, _), best) in TASKS.iter().zip(&best) {
+            print_times(what, codecs, best);
+        }
+        let [.., four, sixteen] = best;
+        for (codec, pair) in codecs.iter().zip(sixteen.into_iter().zip(four)) {
+            if let (Some(sixteen), Some(four)) = pair {
+                let ratio = sixteen.as_secs_f64() / four.as_secs_f64();
+                println!("decode 16x16 / decode 4x4: {:<14} {ratio:.2}", codec.name());
+            }
+        }
+    }
+}
+
+/// Decodes a file, which must give its plane.
+fn timed(codec: &dyn Codec, coded: &Coded, decoded: &mut [u8]) -> Duration {
+    let started = Instant::now();
+    codec.decode(&coded.file, decoded);
+    let time = started.elapsed();
+    assert!(
+        decoded == coded.rebuilt,
+        "{} decodes otherwise",
+        codec.name()
+    );
+    time
+}
+
+fn print_times(what: &str, codecs: &[Box<dyn Codec>], times: &[Option<Duration>]) {
+    let own = times.last().copied().flatten();
+    let own = own.expect("the proved library comes last, and does all");
     for (codec, time) in codecs.iter().zip(times) {
+        let Some(time) = time else { continue };
         let seconds = time.as_secs_f64();
         println!(
-            "{what} at QP {qp}: {:<14} {:6.1} ms, {:4.0} Mpixel/s, {:4.0} ns a block; proved library / this: {:.2}",
+            "{what:<12} {:<14} {:6.1} ms, {:4.0} Mpixel/s, {:4.0} ns a block; proved library / this: {:.2}",
             codec.name(),
             1e3 * seconds,
             SAMPLES as f64 / seconds / 1e6,
             1e9 * seconds / (SAMPLES / 16) as f64,
-            own / seconds
+            own.as_secs_f64() / seconds
         );
     }
 }

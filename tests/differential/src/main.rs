@@ -7,6 +7,7 @@ mod blocks;
 mod distances;
 mod files;
 mod functions;
+mod kinds;
 mod peer;
 mod planes;
 mod random;
@@ -26,9 +27,7 @@ fn main() -> ExitCode {
     }
     let started = Instant::now();
     for function in &functions::ALL {
-        let outcome =
-            peer::compare(&command, function, |_, _| {}).and_then(|seen| all_seen(function, &seen));
-        match outcome {
+        match compared(&command, function) {
             Ok(line) => println!("{}: {line}", function.name),
             Err(difference) => {
                 println!("{}: {difference}", function.name);
@@ -51,6 +50,17 @@ fn main() -> ExitCode {
     ExitCode::SUCCESS
 }
 
+/// What came, as text; a difference, or what has not come.
+fn compared(command: &[String], function: &functions::Function) -> Result<String, String> {
+    let mut kinds = BTreeMap::new();
+    let outcomes = peer::compare(command, function, |word, arguments| {
+        for kind in kinds::of(function.name, word, arguments) {
+            *kinds.entry(kind).or_insert(0) += 1;
+        }
+    })?;
+    Ok(all_seen(function, &outcomes)? + &all_kinds_seen(function, &kinds)?)
+}
+
 /// How often each outcome came, as text; an outcome that never came is a hole in the inputs.
 fn all_seen(function: &functions::Function, seen: &BTreeMap<u8, usize>) -> Result<String, String> {
     if let Some(number) = function
@@ -66,4 +76,24 @@ fn all_seen(function: &functions::Function, seen: &BTreeMap<u8, usize>) -> Resul
         .map(|(number, count)| format!("{count} {}", request::outcome(*number)))
         .collect();
     Ok(format!("{total} inputs, {}", counts.join(", ")))
+}
+
+/// How many kinds of cases must come and how often the rarest came, as text; one that never came is a hole in the inputs.
+fn all_kinds_seen(
+    function: &functions::Function,
+    seen: &BTreeMap<String, usize>,
+) -> Result<String, String> {
+    let required = kinds::required(function.name);
+    let counts = required.iter().map(|kind| {
+        let count = seen.get(kind).copied().unwrap_or(0);
+        (count, kind)
+    });
+    match counts.min() {
+        None => Ok(String::new()),
+        Some((0, kind)) => Err(format!("no input of these was of the kind: {kind}")),
+        Some((count, kind)) => Ok(format!(
+            "; all of {} kinds of cases, the rarest {count} times ({kind})",
+            required.len()
+        )),
+    }
 }

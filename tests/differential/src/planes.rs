@@ -4,9 +4,12 @@ use crate::random::Random;
 use crate::request::Argument::{self, Bytes, Number};
 use reference::record::{HEAD, MACROBLOCK};
 
-/// A picture of one macroblock or a few, or the largest one; areas that hold anything.
-pub fn code_plane(random: &mut Random, largest: bool) -> Vec<Argument> {
-    let (width, height) = match (largest, random.below(16)) {
+pub const CASES: usize = 100_000;
+
+/// A picture of one macroblock or a few, the last the largest one; areas that hold anything.
+pub fn code_plane(random: &mut Random, case: usize) -> Vec<Argument> {
+    let largest = case == CASES;
+    let (width, height) = match (largest, random.below(10)) {
         (true, _) => (128, 128),
         (false, 0) => (random.between(1, 3) as usize, random.between(1, 3) as usize),
         (false, _) => (1, 1),
@@ -27,6 +30,8 @@ pub fn code_plane(random: &mut Random, largest: bool) -> Vec<Argument> {
             2 => resize(random, &mut plane),
             3 => resize(random, &mut file),
             4 => resize(random, &mut rebuilt),
+            // Just the bytes of a file with some 16x16 records.
+            5 => file.truncate(file.len() - 7 * (1 + random.below(width * height))),
             _ => {}
         }
     }
@@ -41,8 +46,11 @@ pub fn code_plane(random: &mut Random, largest: bool) -> Vec<Argument> {
     ]
 }
 
-/// A picture of slopes with noise, so that every mode is chosen somewhere; now and then only black and white.
+/// A picture of slopes with noise, so that every mode of 4x4 is chosen somewhere; now and then only black and white, or plain ground.
 pub fn picture(random: &mut Random, width: usize, height: usize) -> Vec<u8> {
+    if random.below(8) < [1, 6][usize::from(width * height > 1)] {
+        return plain(random, width, height);
+    }
     let (down, right, noise) = (random.below(12), random.below(12), 1 + random.below(90));
     let hard = random.once_in(8);
     let sample = |place: usize| {
@@ -51,6 +59,31 @@ pub fn picture(random: &mut Random, width: usize, height: usize) -> Vec<u8> {
             true => random.of(&[0, 255]),
             false => (right * x + down * y + x / 16 * 40 + random.below(noise)) as u8,
         }
+    };
+    (0..256 * width * height).map(sample).collect()
+}
+
+/// Plain ground with little noise or none, on which 16x16 wins now and then: waves of columns or of rows, a slope, grain round one grey,
+/// or patches of it.
+fn plain(random: &mut Random, width: usize, height: usize) -> Vec<u8> {
+    let (kind, grey, noise) = (
+        random.below(6),
+        random.of(&[60, 128, 128, 200]),
+        random.of(&[1, 2, 4, 9]),
+    );
+    let (down, right, step) = (random.below(4), random.below(4), random.between(3, 40));
+    let wave = |along: usize| 40 + (along as i32 * step % 200 - 100).unsigned_abs() as usize;
+    let sample = |place: usize| {
+        let (x, y) = (place % (16 * width), place / (16 * width));
+        let noise = random.below(noise);
+        let sample = match kind {
+            0 => wave(x) + noise,
+            1 => wave(y) + noise,
+            2 | 3 => 20 + right * x + down * y + noise,
+            4 if (x / 16 + y / 16) % 2 == 0 => grey,
+            _ => grey - 16 + random.below(32),
+        };
+        sample.min(255) as u8
     };
     (0..256 * width * height).map(sample).collect()
 }

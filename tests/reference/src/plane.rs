@@ -1,17 +1,16 @@
 //! Planes: coding one into a record file and decoding it again ("Plane and
-//! record file" of document 01).
+//! record file" of document 01, request 01 of document 02).
 
-use crate::record::{self, Macroblock, HEAD, MACROBLOCK};
+use crate::macroblock::{column_and_row, BLOCKS};
+use crate::record::{self, Four, Luma, Macroblock, Sixteen, HEAD, MACROBLOCK};
+use crate::sixteen::{self, Sides};
 use crate::{code_block, predict, rebuild, Quantizer, Refusal};
-
-/// The blocks of a macroblock by rows.
-const BLOCKS: [[usize; 4]; 4] = [[0, 1, 4, 5], [2, 3, 6, 7], [8, 9, 12, 13], [10, 11, 14, 15]];
 
 /// What stands in the place of a missing neighbour. No answer depends on it.
 const MISSING: u8 = 0xA5;
 
 /// Codes a plane: writes the file and the rebuilt plane, and answers how many
-/// bytes of the file it used. Refusals: SIZE, LENGTH, QUANTIZER.
+/// bytes of the file's area it used. Refusals: SIZE, LENGTH, QUANTIZER.
 pub fn code_plane(
     width: usize,
     height: usize,
@@ -20,89 +19,112 @@ pub fn code_plane(
     file: &mut [u8],
     rebuilt: &mut [u8],
 ) -> Result<usize, Refusal> {
-    let head = record::head(width, height)?;
+    code_plane_by(Sads::sixteen_wins, width, height, qp, plane, file, rebuilt)
+}
+
+/// What the two candidates of a macroblock cost.
+pub struct Sads {
+    /// The sum of the sixteen 4x4 SADs.
+    pub four: u32,
+    /// Of 16x16 by mode; nothing for a mode that lacks what it needs.
+    pub sixteen: [Option<u32>; 4],
+}
+
+impl Sads {
+    /// The least of 16x16 with its mode, the lower number on a tie.
+    pub fn best_sixteen(&self) -> (u32, u8) {
+        let permitted = (0..).zip(self.sixteen);
+        let costs = permitted.filter_map(|(mode, sad)| Some((sad?, mode)));
+        costs.min().expect("the DC mode needs no neighbour")
+    }
+
+    /// "The macroblock takes it exactly if its SAD is below the sum of the
+    /// sixteen 4x4 SADs."
+    pub fn sixteen_wins(&self) -> bool {
+        self.best_sixteen().0 < self.four
+    }
+}
+
+/// `code_plane` with another choice between the two kinds of a macroblock, for
+/// tests that want to see it or to have it their own way.
+pub fn code_plane_by(
+    mut takes_sixteen: impl FnMut(&Sads) -> bool,
+    width: usize,
+    height: usize,
+    qp: u8,
+    plane: &[u8],
+    file: &mut [u8],
+    rebuilt: &mut [u8],
+) -> Result<usize, Refusal> {
+    record::test_size(width, height)?;
     let picture = Picture { width, height };
+    let area = HEAD + MACROBLOCK * picture.macroblocks();
     let lengths = [plane.len(), file.len(), rebuilt.len()];
-    if lengths != [picture.samples(), picture.bytes(), picture.samples()] {
+    if lengths != [picture.samples(), area, picture.samples()] {
         return Err(Refusal::LENGTH);
     }
     Quantizer::new(qp)?;
 
-    file[..HEAD].copy_from_slice(&head);
-    let records = file[HEAD..].chunks_exact_mut(MACROBLOCK);
-    for (number, record) in records.enumerate() {
-        let mut macroblock = Macroblock {
-            qp,
-            modes: [0; 16],
-            levels: [[0; 16]; 16],
-        };
-        for block in 0..16 {
-            let here = picture.block(number, block);
-            let (neighbours, flags) = (here.neighbours(rebuilt), here.flags());
-            let mut levels = [0; 16];
-            let mut samples = [0; 16];
-            let choice = code_block(
-                qp,
-                flags,
-                &neighbours,
-                &here.samples(plane),
-                &mut levels,
-                &mut samples,
-            )?;
-            here.store(&samples, rebuilt);
-            macroblock.modes[block] = choice.mode as u8;
-            macroblock.levels[block] = levels.map(|level| level as i16);
-        }
-        record.copy_from_slice(&macroblock.record(number as u16));
-    }
-    Ok(file.len())
+    let numbers = 0..picture.macroblocks();
+    let macroblocks: Vec<Macroblock> = numbers
+        .map(|number| picture.code(number, qp, plane, rebuilt, &mut takes_sixteen))
+        .collect();
+    let written = record::file(width, height, &macroblocks)?;
+    file[..written.len()].copy_from_slice(&written);
+    Ok(written.len())
 }
 
 /// Decodes a record file. Refusals: FORM of the head, SIZE, LENGTH of the
-/// plane, FORM of the file's length, FORM of the records, and then by record
-/// QUANTIZER, MODE, RANGE.
+/// plane, FORM of the records, and then by record QUANTIZER, MODE, RANGE.
 pub fn decode_plane(file: &[u8], plane: &mut [u8]) -> Result<(), Refusal> {
     let (width, height) = record::read_head(file)?;
     let picture = Picture { width, height };
     if plane.len() != picture.samples() {
         return Err(Refusal::LENGTH);
     }
-    if file.len() != picture.bytes() {
-        return Err(Refusal::form(file.len()));
-    }
-    let macroblocks = file[HEAD..]
-        .chunks_exact(MACROBLOCK)
-        .enumerate()
-        .map(|(number, bytes)| {
-            Macroblock::read(bytes, number as u16).ok_or(Refusal::form(HEAD + MACROBLOCK * number))
-        })
-        .collect::<Result<Vec<_>, _>>()?;
+    let macroblocks = record::read_records(file, picture.macroblocks())
+        .map_err(|broken| broken.refusal(file.len()))?;
     for (number, macroblock) in macroblocks.iter().enumerate() {
-        picture.test_content(number, macroblock)?;
+        picture
+            .test_content(number, macroblock, plane)
+            .map_err(|refusal| Refusal {
+                place: 16 * number as u64 + refusal.place,
+                ..refusal
+            })?;
     }
 
-    for (number, macroblock) in macroblocks.iter().enumerate() {
-        for block in 0..16 {
-            let here = picture.block(number, block);
-            let samples = decoded(macroblock, block, &here.neighbours(plane), here.flags())?;
-            here.store(&samples, plane);
+    for (number, Macroblock { qp, luma }) in macroblocks.iter().enumerate() {
+        match luma {
+            Luma::Four(four) => {
+                for block in 0..16 {
+                    let here = picture.block(number, block);
+                    let samples = decoded(*qp, four, block, &here.neighbours(plane), here.flags())?;
+                    here.store(&samples, plane);
+                }
+            }
+            Luma::Sixteen(sixteen) => {
+                let here = picture.block(number, 0);
+                let samples = sixteen.decoded(*qp, &here.sides(plane))?;
+                here.store(&samples, plane);
+            }
         }
     }
     Ok(())
 }
 
-/// The samples of one block; MODE or RANGE by the entry points' own tests.
+/// The samples of one block of 4x4; MODE or RANGE by the entry points' own tests.
 fn decoded(
-    macroblock: &Macroblock,
+    qp: u8,
+    four: &Four,
     block: usize,
     neighbours: &[u8; 13],
     flags: u8,
 ) -> Result<[u8; 16], Refusal> {
     let mut prediction = [0; 16];
-    predict(neighbours, flags, macroblock.modes[block], &mut prediction)?;
+    predict(neighbours, flags, four.modes[block], &mut prediction)?;
     let mut samples = [0; 16];
-    let levels = macroblock.levels[block].map(i32::from);
-    rebuild(macroblock.qp, &prediction, &levels, &mut samples)?;
+    let levels = four.levels[block].map(i32::from);
+    rebuild(qp, &prediction, &levels, &mut samples)?;
     Ok(samples)
 }
 
@@ -114,39 +136,109 @@ struct Picture {
 }
 
 impl Picture {
+    fn macroblocks(self) -> usize {
+        self.width * self.height
+    }
+
     fn samples(self) -> usize {
-        256 * self.width * self.height
+        256 * self.macroblocks()
     }
 
-    fn bytes(self) -> usize {
-        HEAD + MACROBLOCK * self.width * self.height
+    /// A macroblock of the kind that is taken; its samples go into the rebuilt
+    /// plane.
+    fn code(
+        self,
+        number: usize,
+        qp: u8,
+        plane: &[u8],
+        rebuilt: &mut [u8],
+        takes_sixteen: &mut impl FnMut(&Sads) -> bool,
+    ) -> Macroblock {
+        let (coded, cost) = self.code_four(number, qp, plane, rebuilt);
+        let here = self.block(number, 0);
+        // What 16x16 is predicted from lies outside the macroblock.
+        let (sides, samples) = (here.sides(rebuilt), here.samples(plane));
+        let sads = Sads {
+            four: cost,
+            sixteen: sixteen::sads(&sides, &samples),
+        };
+        let luma = if takes_sixteen(&sads) {
+            let (_, mode) = sads.best_sixteen();
+            let coded = Sixteen::coded(qp, &sides, mode, &samples);
+            let samples = coded.decoded(qp, &sides);
+            here.store(&samples.expect("own levels are in range"), rebuilt);
+            Luma::Sixteen(coded)
+        } else {
+            Luma::Four(coded)
+        };
+        Macroblock { qp, luma }
     }
 
-    /// QUANTIZER, then all modes, then all ranges of a macroblock.
-    fn test_content(self, number: usize, macroblock: &Macroblock) -> Result<(), Refusal> {
+    /// A macroblock as 4x4, with the sum of its SADs; its samples go into the
+    /// rebuilt plane, where they are neighbours of its later blocks.
+    fn code_four(self, number: usize, qp: u8, plane: &[u8], rebuilt: &mut [u8]) -> (Four, u32) {
+        let mut four = Four {
+            modes: [0; 16],
+            levels: [[0; 16]; 16],
+        };
+        let mut cost = 0;
+        for block in 0..16 {
+            let here = self.block(number, block);
+            let (neighbours, flags) = (here.neighbours(rebuilt), here.flags());
+            let (mut levels, mut samples) = ([0; 16], [0; 16]);
+            let choice = code_block(
+                qp,
+                flags,
+                &neighbours,
+                &here.samples::<16>(plane),
+                &mut levels,
+                &mut samples,
+            )
+            .expect("the flags and the QP are legal");
+            here.store(&samples, rebuilt);
+            four.modes[block] = choice.mode as u8;
+            four.levels[block] = levels.map(|level| level as i16);
+            cost += choice.sad;
+        }
+        (four, cost)
+    }
+
+    /// QUANTIZER, MODE, RANGE of a macroblock; the place is the block. No answer
+    /// depends on what the plane holds.
+    fn test_content(
+        self,
+        number: usize,
+        macroblock: &Macroblock,
+        plane: &[u8],
+    ) -> Result<(), Refusal> {
+        let qp = macroblock.qp;
+        Quantizer::new(qp)?;
+        match &macroblock.luma {
+            Luma::Four(four) => self.test_four(number, qp, four),
+            Luma::Sixteen(sixteen) => sixteen.test(qp, &self.block(number, 0).sides(plane)),
+        }
+    }
+
+    /// All modes, then all ranges.
+    fn test_four(self, number: usize, qp: u8, four: &Four) -> Result<(), Refusal> {
         let at = |refusal: Refusal, block: usize| Refusal {
-            place: (16 * number + block) as u64,
+            place: block as u64,
             ..refusal
         };
-        Quantizer::new(macroblock.qp).map_err(|refusal| at(refusal, 0))?;
-        for (block, &mode) in macroblock.modes.iter().enumerate() {
+        for (block, &mode) in four.modes.iter().enumerate() {
             let flags = self.block(number, block).flags();
             predict(&[MISSING; 13], flags, mode, &mut [0; 16])
                 .map_err(|refusal| at(refusal, block))?;
         }
-        for (block, levels) in macroblock.levels.iter().enumerate() {
+        for (block, levels) in four.levels.iter().enumerate() {
             let levels = levels.map(i32::from);
-            rebuild(macroblock.qp, &[0; 16], &levels, &mut [0; 16])
-                .map_err(|refusal| at(refusal, block))?;
+            rebuild(qp, &[0; 16], &levels, &mut [0; 16]).map_err(|refusal| at(refusal, block))?;
         }
         Ok(())
     }
 
     fn block(self, macroblock: usize, block: usize) -> Place {
-        let row = BLOCKS.iter().position(|row| row.contains(&block));
-        let row = row.expect("there are 16 blocks");
-        let column = BLOCKS[row].iter().position(|&other| other == block);
-        let column = column.expect("this row has the block");
+        let (column, row) = column_and_row(block);
         Place {
             picture: self,
             x: (16 * (macroblock % self.width) + 4 * column) as isize,
@@ -164,7 +256,7 @@ impl Picture {
     }
 }
 
-/// A block's first sample in its picture.
+/// A block's first sample in its picture; that of block 0 is its macroblock's.
 #[derive(Clone, Copy)]
 struct Place {
     picture: Picture,
@@ -198,25 +290,47 @@ impl Place {
                 0..=8 => (along - 1, -1),
                 _ => (-1, along - 9),
             };
-            match self.present(column, row) {
-                true => plane[self.index(column, row)],
-                false => MISSING,
-            }
+            self.sample(column, row, plane).unwrap_or(MISSING)
         })
     }
 
-    fn samples(self, plane: &[u8]) -> [u8; 16] {
-        std::array::from_fn(|place| plane[self.inner(place)])
-    }
-
-    fn store(self, samples: &[u8; 16], plane: &mut [u8]) {
-        for (place, &sample) in samples.iter().enumerate() {
-            plane[self.inner(place)] = sample;
+    /// What stands beside the macroblock that begins here.
+    fn sides(self, plane: &[u8]) -> Sides {
+        let line = |place: fn(isize) -> (isize, isize)| {
+            let mut line = [0; 16];
+            for (along, sample) in line.iter_mut().enumerate() {
+                let (column, row) = place(along as isize);
+                *sample = self.sample(column, row, plane)?;
+            }
+            Some(line)
+        };
+        Sides {
+            above: line(|x| (x, -1)),
+            left: line(|y| (-1, y)),
+            corner: self.sample(-1, -1, plane),
         }
     }
 
-    fn inner(self, place: usize) -> usize {
-        self.index(place as isize % 4, place as isize / 4)
+    /// A neighbour, if it is present.
+    fn sample(self, column: isize, row: isize, plane: &[u8]) -> Option<u8> {
+        self.present(column, row)
+            .then(|| plane[self.index(column, row)])
+    }
+
+    /// The samples of a square that begins here, by rows: 16 of a block, 256 of
+    /// a macroblock.
+    fn samples<const N: usize>(self, plane: &[u8]) -> [u8; N] {
+        std::array::from_fn(|place| plane[self.inner(place, N.isqrt())])
+    }
+
+    fn store<const N: usize>(self, samples: &[u8; N], plane: &mut [u8]) {
+        for (place, &sample) in samples.iter().enumerate() {
+            plane[self.inner(place, N.isqrt())] = sample;
+        }
+    }
+
+    fn inner(self, place: usize, side: usize) -> usize {
+        self.index((place % side) as isize, (place / side) as isize)
     }
 
     fn index(self, column: isize, row: isize) -> usize {

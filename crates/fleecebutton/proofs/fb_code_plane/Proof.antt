@@ -3,10 +3,12 @@ use mathlib.Core.List.{List}
 use Prim.Native.Nat.{ℕ, _<_}
 use native.Mathlib.Omega.{arith}
 use borrow.Author.Needs.{needs}
+use Rattle.picture.specs.Plane.{layoutOf}
 use Rattle.picture.proofs.Plane.{samples-fit}
 use Rattle.plane.specs.Code.{bytesUsed, CodesPlane}
 use Rattle.plane.specs.declared.CodedPlane.{CodedPlane}
 use Rattle.plane.specs.declared.CodedPlane.the-variants.{Bytes, Refused}
+use Rattle.plane.proofs.CodedFile.{length-coded-file}
 use Rattle.plane.proofs.CodedOutcome.{outcome}
 use Rattle.plane.proofs.Entry.{sound-of}
 use Rattle.fleecebutton.specs.Word.{places}
@@ -20,7 +22,7 @@ small : {width height qp : ℕ} {plane file rebuilt : List ℕ} (r : CodedPlane)
     → bytesUsed r < places
 small {width} {height} {qp} {plane} {file} {rebuilt} (Bytes used) {file′} {rebuilt′} p =
     let o = outcome width height qp plane file rebuilt used file′ rebuilt′ p in
-    omega (arith, o .bytes, samples-fit (sound-of width height (o .size)))
+    omega (arith, o .bytes, length-coded-file (layoutOf width height) qp plane, samples-fit (sound-of width height (o .size)))
 small (Refused r) p = omega arith
 
 of-plane-requires : tie.Need-of-plane-requires

@@ -10,7 +10,7 @@ use Rattle.picture.proofs.Plane.{samples-fit}
 use lib.ListN.{length}
 use Rattle.lists.specs.Parts.{over}
 use Rattle.record.specs.Entry.{sizeHolds}
-use Rattle.record.specs.Records.{fileLength}
+use Rattle.record.specs.Records.{areaLength}
 use Rattle.plane.specs.Code.{fileFrom, planeFrom}
 use Rattle.plane.specs.Decode.{cleared}
 use Rattle.plane.proofs.CodedOutcome.{bad-size, plane-missed, file-missed, rebuilt-missed, high-quantizer, plane-coded}
@@ -41,21 +41,21 @@ returns-2 c =
     let s = c .before .before .before .before .before .before in
     plane-missed _ _ _ (s .args .plane .now) (s .args .file .now) (s .args .rebuilt .now) (sized (c .before)) (c .if2 .taken)
 
-file-length-requires : tie.Need-file-length-requires
-file-length-requires c κs = small (c .before)
+area-length-requires : tie.Need-area-length-requires
+area-length-requires c κs = small (c .before)
 
 returns-3 : tie.Need-returns-3
 returns-3 c =
     let G = c .before in
     let P = G .before in
     let s = P .before .before .before .before .before .before in
-    file-missed _ _ _ (s .args .plane .now) (s .args .file .now) (s .args .rebuilt .now) (sized (P .before)) (P .if2 .left) (λ e. c .if3 .taken (e ∙ sym (G .file-length .ensures)))
+    file-missed _ _ _ (s .args .plane .now) (s .args .file .now) (s .args .rebuilt .now) (sized (P .before)) (P .if2 .left) (λ e. c .if3 .taken (e ∙ sym (G .area-length .ensures)))
 
 -- the file area is as long as it must be
 area : (c : tie.Else3)
     → let s = c .before .before .before .before .before .before .before .before in
-    length (s .args .file .now) ≡ fileLength (s .args .width * s .args .height)
-area c = c .if3 .left ∙ c .before .file-length .ensures
+    length (s .args .file .now) ≡ areaLength (s .args .width * s .args .height)
+area c = c .if3 .left ∙ c .before .area-length .ensures
 
 returns-4 : tie.Need-returns-4
 returns-4 c =
@@ -116,7 +116,7 @@ code-plane-spec =
     mul-count
     mul-if2
     returns-2
-    file-length-requires
+    area-length-requires
     returns-3
     (λ c. search needs)
     returns-4

@@ -1,4 +1,4 @@
--- `plane::decode` meets its contract: two lengths, the tests of all records, and then the plane. Assumes nothing.
+-- `plane::decode` meets its contract: the length of the plane, the tests of all records, and then the plane. Assumes nothing.
 use mathlib.Core.Path.{_≡_, sym, ap, _∙_}
 use Prim.Native.Nat.{_*_, _≤_}
 use native.Mathlib.Omega.{arith}
@@ -7,7 +7,7 @@ use Rattle.refusal.specs.Number.{said}
 use Rattle.lists.specs.Chain.{chain}
 use Rattle.picture.proofs.Plane.{samples-fit}
 use Rattle.plane.specs.Decode.{recordIn, bodyTests, rebuiltFrom, cleared}
-use Rattle.plane.proofs.Entry.{plane-short, file-short, body-rest, records-passed, body-refused, body-done}
+use Rattle.plane.proofs.Entry.{plane-short, body-rest, records-passed, body-refused, body-done}
 use Rattle.plane.proofs.decode.Statement.{statement}
 use Rattle.plane.proofs.decode.Tie as tie
 
@@ -25,49 +25,37 @@ returns c =
     let s = c .before .before .before .before in
     body-refused _ _ (s .args .file .now) (s .args .plane .now) (plane-short _ _ (s .args .file .now) (s .args .plane .now) (c .if1 .taken))
 
-file-length-requires : tie.Need-file-length-requires
-file-length-requires c κs = small (c .before .before .before .before)
-
-returns-2 : tie.Need-returns-2
-returns-2 c =
-    let F = c .before in
-    let E = F .before in
-    let s = E .before .before .before .before in
-    body-refused _ _ (s .args .file .now) (s .args .plane .now) (file-short _ _ (s .args .file .now) (s .args .plane .now) (E .if1 .left) (λ e. c .if2 .taken (e ∙ sym (F .file-length .ensures))))
-
 -- the whole chain comes to what the tests of the records answered
 rest : (c : tie.After-tested)
-    → let s = c .before .before .before .before .before .before .before in
+    → let s = c .before .before .before .before .before in
     said (c .tested .result) ≡ chain (bodyTests (s .args .layout) (s .args .place) (s .args .file .now) (s .args .plane .now))
 rest c =
-    let G = c .before in
-    let F = G .before in
-    let E = F .before in
+    let E = c .before in
     let s = E .before .before .before .before in
-    c .tested .ensures ∙ sym (body-rest (s .args .layout) (s .args .place) (s .args .file .now) (s .args .plane .now) (E .if1 .left) (G .if2 .left ∙ F .file-length .ensures))
+    c .tested .ensures ∙ sym (body-rest (s .args .layout) (s .args .place) (s .args .file .now) (s .args .plane .now) (E .if1 .left))
 
 rebuild-plane-requires : tie.Need-rebuild-plane-requires
 rebuild-plane-requires c κs =
     let D = c .before .before .before .before .before in
     let T = D .before .before in
-    let s = T .before .before .before .before .before .before .before in
+    let s = T .before .before .before .before .before in
     let p = records-passed (s .args .layout) (s .args .place) (s .args .file .now) (s .args .plane .now) (sym (T .tested .ensures) ∙ ap said (D .enum-told .given .1)) in
     ((s .pre, p .0, search needs), p .1)
 
-returns-3 : tie.Need-returns-3
-returns-3 c =
+returns-2 : tie.Need-returns-2
+returns-2 c =
     let R = c .before in
     let T = R .before .before in
-    let s = T .before .before .before .before .before .before .before in
+    let s = T .before .before .before .before .before in
     body-refused _ _ (s .args .file .now) (s .args .plane .now) (sym (rest T) ∙ ap said (R .refusal .given .1))
 
-returns-4 : tie.Need-returns-4
-returns-4 c =
+returns-3 : tie.Need-returns-3
+returns-3 c =
     let B = c .before .before in
     let C = B .before .before .before .before in
     let D = C .before .before in
     let T = D .before .before in
-    let E = T .before .before .before in
+    let E = T .before in
     let s = E .before .before .before .before in
     let start = C .clear .ensures ∙ ap cleared (E .if1 .left) in
     body-done _ _ (s .args .file .now) (s .args .plane .now) (sym (rest T) ∙ ap said (D .enum-told .given .1))
@@ -80,13 +68,11 @@ decode-spec =
     mul-count
     mul-if1
     returns
-    file-length-requires
-    returns-2
     (λ c κs. search needs)
     (λ c. search needs)
     (λ c. search needs)
     (λ c κs. search needs)
     rebuild-plane-requires
-    returns-3
+    returns-2
     (λ c. search needs)
-    returns-4)
+    returns-3)

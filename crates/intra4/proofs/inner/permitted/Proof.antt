@@ -1,11 +1,11 @@
 -- `intra4::inner::permitted` meets its contract, mode by mode; past the last key the table has no entry. Assumes nothing.
 use mathlib.Core.Path.{sym}
-use mathlib.Core.Bool.{true, false, _&&_}
+use mathlib.Core.Bool.{true, false}
 use mathlib.Core.List.{[], _∷_}
 use borrow.Author.Needs.{needs}
 use lib.ListN.{List·getD-eq-default}
 use Rattle.lists.proofs.Keys.{at-least}
-use Rattle.intra4.specs.Samples.{bitOf}
+use Rattle.intra4.specs.Samples.{bitOf, allPresent}
 use Rattle.intra4.specs.Rules.{permitted}
 use Rattle.intra4.proofs.inner.permitted.Statement.{statement}
 use Rattle.intra4.proofs.inner.permitted.Tie as tie
@@ -50,8 +50,7 @@ returns-10 : tie.Need-returns-10
 unfolding permitted
 returns-10 c =
     let f = c .before .args .flags in
-    let all = bitOf f 0 && (bitOf f 1 && bitOf f 2) in
-    sym (List·getD-eq-default (bitOf f 0 ∷ bitOf f 1 ∷ true ∷ bitOf f 0 ∷ all ∷ all ∷ all ∷ bitOf f 0 ∷ bitOf f 1 ∷ []) false
+    sym (List·getD-eq-default (bitOf f 0 ∷ bitOf f 1 ∷ true ∷ bitOf f 0 ∷ allPresent f ∷ allPresent f ∷ allPresent f ∷ bitOf f 0 ∷ bitOf f 1 ∷ []) false
     (at-least 9 (c .before .args .mode) (c .match .rest)))
 
 pub permitted-spec : {M : Type 1} → statement M

@@ -1,99 +1,60 @@
--- `macroblock::inner::rebuild_macroblock` meets its contract: a loop over the turns of its blocks. Assumes nothing.
-use mathlib.Core.Path.{_≡_, _∙_}
-use Prim.Native.Nat.{_-_}
+-- `macroblock::inner::rebuild_macroblock` meets its contract: the step of the record's kind. Assumes nothing.
+use mathlib.Core.Path.{_≡_, sym, ap, _∙_}
+use mathlib.Core.Bool.{true, false}
 use native.Mathlib.Omega.{arith}
 use borrow.Author.Needs.{needs}
-use lib.ListN.{length}
-use Rattle.lists.proofs.Fold.{Folding, folding-none, folding-more, folding-done}
-use Rattle.quantizer.proofs.Range.{built-legal, built-refused}
-use Rattle.picture.specs.Plane.{planeLength, turn}
-use Rattle.macroblock.specs.Rebuild.{blockFrom}
-use Rattle.macroblock.proofs.Contents.{Fine, fine}
-use Rattle.macroblock.proofs.Rebuilding.{step-made}
+use Rattle.lists.specs.Chain.{chain}
+use Rattle.record.specs.Records.{isWhole}
+use Rattle.macroblock.proofs.Contents.{kind-long, tests-whole, tests-fours, rebuilt-whole, rebuilt-fours}
 use Rattle.macroblock.proofs.inner.rebuild_macroblock.Statement.{statement}
 use Rattle.macroblock.proofs.inner.rebuild_macroblock.Tie as tie
 
-abbrev Inv-loop : tie.InvT-loop
-Inv-loop layout m part plane₀ quantizer b₀ plane b =
-    (length plane ≡ planeLength 16 layout) × Folding 16 (turn 4 (blockFrom layout part) layout m) plane₀ plane b
+is-whole-requires : tie.Need-is-whole-requires
+is-whole-requires c κs = let s = c .before .before in let n = kind-long (s .args .part .now) in omega (arith, n, s .pre .0 .1)
 
-abbrev μ-loop : tie.MeasureT-loop
-μ-loop layout m part plane₀ quantizer b₀ plane b = 16 - b
+-- of which kind the record is
+whole : (c : tie.Then1) → isWhole (c .before .before .before .before .args .part .now) ≡ true
+whole c = sym (c .before .is-whole .ensures) ∙ c .if1 .taken
 
-qp-requires : tie.Need-qp-requires Inv-loop μ-loop
-qp-requires c κs = search needs
+fours : (c : tie.Else1) → isWhole (c .before .before .before .before .args .part .now) ≡ false
+fours c = sym (c .before .is-whole .ensures) ∙ c .if1 .left
 
-new-requires : tie.Need-new-requires Inv-loop μ-loop
-new-requires c κs = search needs
-
-enum-known-quantizer : tie.Need-enum-known-quantizer Inv-loop μ-loop
-enum-known-quantizer c = search needs
-
-enum-told : tie.Need-enum-told Inv-loop μ-loop
-enum-told c = search needs
-
--- what the record's content gives
-known : (s : tie.Start Inv-loop μ-loop) → Fine (s .args .layout) (s .args .m) (s .args .part .now)
-known s = fine _ _ _ (s .pre .1)
-
--- a legal number is never refused
-returns : tie.Need-returns Inv-loop μ-loop
-returns c =
-    let N = c .before .before in
-    let Q = N .before in
-    let s = Q .before .before .before in
-    let h = built-refused (Q .qp .result) (N .new .ensures) (c .enum-told .given .1) in
-    absurd (omega (arith, h, Q .qp .ensures, known s .legal))
-
-loop-holds : tie.Need-loop-holds Inv-loop μ-loop
-loop-holds c = (search needs, folding-none _ _ _)
-
-rebuild-turn-requires : tie.Need-rebuild-turn-requires Inv-loop μ-loop
-rebuild-turn-requires c κs =
+rebuild-macroblock16-requires : tie.Need-rebuild-macroblock16-requires
+rebuild-macroblock16-requires c κs =
     let T = c .before in
-    let L = T .before in
-    let K = L .before .before in
-    let N = K .before .before in
-    let Q = N .before in
-    let s = Q .before .before .before in
-    let p = s .pre .0 in
-    let q = built-legal (Q .qp .result) (N .new .ensures) (K .quantizer .given .1) in
-    let f = known s in
-    ((record { sound = p .0 .sound; macroblock = p .0 .macroblock; block = T .loop-test .taken }, p .1, L .loop .inv .0), ((q .0 ∙ Q .qp .ensures, f .legal), (f .modes _ (T .loop-test .taken), f .ranges _ (T .loop-test .taken))))
+    let s = T .before .before .before .before in
+    let e = whole T in
+    ((s .pre .0 .0, rw e at (s .pre .0 .1), s .pre .0 .2), sym (ap chain (tests-whole _ _ (s .args .part .now) e)) ∙ s .pre .1)
 
-add-b : tie.Need-add-b Inv-loop μ-loop
-add-b c = search needs
+rebuild-macroblock4-requires : tie.Need-rebuild-macroblock4-requires
+rebuild-macroblock4-requires c κs =
+    let T = c .before in
+    let s = T .before .before .before .before in
+    let e = fours T in
+    ((s .pre .0 .0, rw e at (s .pre .0 .1), s .pre .0 .2), sym (ap chain (tests-fours _ _ (s .args .part .now) e)) ∙ s .pre .1)
 
-loop-less : tie.Need-loop-less Inv-loop μ-loop
-loop-less c = search needs
+returns : tie.Need-returns
+returns c =
+    let R = c .before .before in
+    let T = R .before .before in
+    let s = T .before .before .before .before in
+    R .rebuild-macroblock16 .ensures ∙ sym (rebuilt-whole _ _ (s .args .part .now) (s .args .plane .now) (whole T))
 
-loop-again : tie.Need-loop-again Inv-loop μ-loop
-loop-again c =
-    let B = c .before .before in
-    let T = B .before .before in
-    (search needs, folding-more _ _ _ (T .before .loop .inv .1) (T .loop-test .taken) (B .rebuild-turn .ensures))
-
-same-length : tie.Need-same-length Inv-loop μ-loop
-same-length c = search needs
-
-returns-2 : tie.Need-returns-2 Inv-loop μ-loop
-returns-2 c = step-made _ _ _ _ (folding-done _ _ _ (c .before .loop .inv .1) (c .loop-test .left))
+returns-2 : tie.Need-returns-2
+returns-2 c =
+    let R = c .before .before in
+    let T = R .before .before in
+    let s = T .before .before .before .before in
+    R .rebuild-macroblock4 .ensures ∙ sym (rebuilt-fours _ _ (s .args .part .now) (s .args .plane .now) (fours T))
 
 pub rebuild-macroblock-spec : {M : Type 1} → statement M
 rebuild-macroblock-spec =
     tie.close
     (tie.spec
-    Inv-loop
-    μ-loop
-    qp-requires
-    new-requires
-    enum-known-quantizer
-    enum-told
+    is-whole-requires
+    rebuild-macroblock16-requires
+    rebuild-macroblock4-requires
+    (λ c. search needs)
     returns
-    loop-holds
-    rebuild-turn-requires
-    add-b
-    loop-less
-    loop-again
-    same-length
+    (λ c. search needs)
     returns-2)

@@ -72,10 +72,10 @@ add-place c =
     let I = C .before .before .before in
     let L = I .before in
     let s = L .before .before .before .before .before .before .before .before .before .before .before in
-    let n = C .code-macroblock .ensures .0 ∙ length-record-from _ _ (s .args .plane .now) _ _ in
-    let p = L .loop .inv .next ∙ length-to (s .args .layout) (s .args .quantizer .qp) (s .args .plane .now) (s .args .rebuilt .now) (L .loop .m) in
+    let n = length-record-from (s .args .layout) (s .args .quantizer .qp) (s .args .plane .now) (L .loop .m) (L .loop .rebuilt) in
+    let p = length-to (s .args .layout) (s .args .quantizer .qp) (s .args .plane .now) (s .args .rebuilt .now) (L .loop .m) in
     let f = small s in
-    record { fits = omega (arith, n, p, f, I .loop-test .taken) }
+    record { fits = omega (arith, C .code-macroblock .ensures .0, n, L .loop .inv .next, p, f, I .loop-test .taken) }
 
 loop-again : tie.Need-loop-again Inv-loop μ-loop
 loop-again c =

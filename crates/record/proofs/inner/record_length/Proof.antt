@@ -1,15 +1,19 @@
--- `record::inner::record_length` meets its contract: by the mark. Assumes nothing.
+-- `record::inner::record_length` meets its contract: the marks in turn. Assumes nothing.
 use mathlib.Core.Path.{sym, _∙_}
 use borrow.Author.Needs.{needs}
-use Rattle.record.proofs.Marks.{length-fours, length-none}
+use Rattle.record.specs.Kinds.{inFours, inWhole}
+use Rattle.record.proofs.Marks.{fours, wholes, length-named, length-none}
 use Rattle.record.proofs.inner.record_length.Statement.{statement}
 use Rattle.record.proofs.inner.record_length.Tie as tie
 
 returns : tie.Need-returns
-returns c = c .fours-length .ensures ∙ sym (length-fours (c .before .before .before .args .mark) (c .before .if1 .taken))
+returns c = c .fours-length .ensures ∙ sym (length-named (c .before .before .before .args .mark) inFours fours (c .before .if1 .taken))
 
 returns-2 : tie.Need-returns-2
-returns-2 c = sym (length-none (c .before .before .args .mark) (c .if1 .left))
+returns-2 c = c .whole-length .ensures ∙ sym (length-named (c .before .before .before .before .before .args .mark) inWhole wholes (c .before .if2 .taken))
+
+returns-3 : tie.Need-returns-3
+returns-3 c = sym (length-none (c .before .before .before .before .args .mark) (c .before .before .if1 .left) (c .if2 .left))
 
 pub record-length-spec : {M : Type 1} → statement M
-record-length-spec = tie.close (tie.spec (λ c κs. search needs) returns returns-2)
+record-length-spec = tie.close (tie.spec (λ c κs. search needs) returns (λ c κs. search needs) returns-2 returns-3)

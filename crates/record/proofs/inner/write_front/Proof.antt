@@ -1,135 +1,98 @@
--- `record::inner::write_front` meets its contract: five stores, then a loop over the eight bytes of modes. Assumes nothing.
-use mathlib.Core.Path.{_≡_}
-use mathlib.Core.List.{List, [], _∷_}
-use Prim.Native.Nat.{ℕ, _+_, _-_, _*_, _/_, _%_, _≤_}
+-- `record::inner::write_front` meets its contract: five stores, and behind them what the kind has besides. Assumes nothing.
+use mathlib.Core.Path.{_≡_, refl, sym, ap, _∙_}
+use mathlib.Core.List.{List, [], _∷_, _++_}
+use Prim.Native.Nat.{ℕ, _+_, _-_, _/_, _%_, _≤_}
 use native.Mathlib.Omega.{arith}
 use borrow.Author.Needs.{needs}
-use lib.ListN.{length, length-set}
-use Rattle.lists.specs.Tab.{tab}
-use Rattle.lists.proofs.Parts.{Growing, growing-all, growing-more, growing-done}
-use Rattle.record.specs.Kinds.{inFours}
-use Rattle.record.specs.Modes.{packed}
-use Rattle.record.specs.Records.{frontOf}
-use Rattle.record.proofs.Modes.{packed-more}
+use borrow.Rule.Slice.PartMut.{putMid}
+use lib.ListN.{length, take, drop, length-set, length-drop}
+use lib.Seq.{sets, length-sets, length-take-le}
+use Rattle.lists.proofs.Parts.{growing-all, growing-part, growing-done, copied}
 use Rattle.record.proofs.inner.write_front.Statement.{statement}
 use Rattle.record.proofs.inner.write_front.Tie as tie
 
-abbrev Inv-loop : tie.InvT-loop
-Inv-loop number qp front₀ modes k₀ front k =
-    (k ≤ 8) × (length front ≡ inFours .front) × Growing front (77 ∷ 66 ∷ number / 256 ∷ number % 256 ∷ qp ∷ packed k modes) (5 + k)
+-- mark, number and QP
+abbrev started : (mark number qp : ℕ) → List ℕ
+started mark number qp = mark / 256 ∷ mark % 256 ∷ number / 256 ∷ number % 256 ∷ qp ∷ []
 
-abbrev μ-loop : tie.MeasureT-loop
-μ-loop number qp front₀ modes k₀ front k = 8 - k
+-- five stores, and the part behind them
+module _ (d v : List ℕ) (five : length v ≡ 5) where
+  rest-long : 5 ≤ length d → length (take (length (sets d 0 v) - 5) (drop 5 (sets d 0 v))) ≡ length d - 5
+  rest-long h =
+      let e = length-sets d 0 v in
+      length-take-le (length (sets d 0 v) - 5) (drop 5 (sets d 0 v)) (omega (arith, length-drop 5 (sets d 0 v))) ∙ omega (arith, e)
 
-cast-front : tie.Need-cast-front Inv-loop μ-loop
-cast-front c = search needs
+  -- has come home with a copy
+  behind : (more : List ℕ) {w : List ℕ} → 5 + length more ≡ length d
+      → w ≡ take (length more) more ++ drop (length more) (take (length (sets d 0 v) - 5) (drop 5 (sets d 0 v)))
+      → length (putMid 5 (length (sets d 0 v) - 5) (sets d 0 v) w) ≡ length (sets d 0 v)
+      → putMid 5 (length (sets d 0 v) - 5) (sets d 0 v) w ≡ v ++ more
+  behind more {w} h e same =
+      let x = sets d 0 v in
+      let l = length-sets d 0 v in
+      let is : w ≡ more = e ∙ copied more (take (length x - 5) (drop 5 x)) (omega (arith, rest-long (omega arith))) in
+      let g = rw five at (growing-all v d (omega (arith, five))) in
+      growing-done (growing-part w (length x) g (omega (arith, l)) (omega arith) (omega (arith, ap length is, l))) (omega (arith, same)) ∙ ap (λ (k : List ℕ). v ++ k) is
 
-slice-write-front : tie.Need-slice-write-front Inv-loop μ-loop
-slice-write-front c = search needs
+slice-write-front : tie.Need-slice-write-front
+slice-write-front c = omega (arith, c .before .before .pre .0, c .before .before .pre .1)
 
-cast-front-2 : tie.Need-cast-front-2 Inv-loop μ-loop
-cast-front-2 c = search needs
+slice-write-front-2 : tie.Need-slice-write-front-2
+slice-write-front-2 c = simp length-set (omega (arith, c .before .before .pre .0, c .before .before .pre .1))
 
-slice-write-front-2 : tie.Need-slice-write-front-2 Inv-loop μ-loop
-slice-write-front-2 c = search needs
+slice-write-front-3 : tie.Need-slice-write-front-3
+slice-write-front-3 c = simp length-set (omega (arith, c .before .before .pre .0, c .before .before .pre .1))
 
-cast-front-3 : tie.Need-cast-front-3 Inv-loop μ-loop
-cast-front-3 c = search needs
+slice-write-front-4 : tie.Need-slice-write-front-4
+slice-write-front-4 c = simp length-set (omega (arith, c .before .before .pre .0, c .before .before .pre .1))
 
-slice-write-front-3 : tie.Need-slice-write-front-3 Inv-loop μ-loop
-slice-write-front-3 c = search needs
+slice-write-front-5 : tie.Need-slice-write-front-5
+slice-write-front-5 c = simp length-set (omega (arith, c .before .before .pre .0, c .before .before .pre .1))
 
-cast-front-4 : tie.Need-cast-front-4 Inv-loop μ-loop
-cast-front-4 c = search needs
+sub-copy : tie.Need-sub-copy
+sub-copy c = simp length-set (omega (arith, c .before .before .pre .0, c .before .before .pre .1))
 
-slice-write-front-4 : tie.Need-slice-write-front-4 Inv-loop μ-loop
-slice-write-front-4 c = search needs
+part-copy-start : tie.Need-part-copy-start
+part-copy-start c = simp length-set (omega (arith, c .before .before .pre .0, c .before .before .pre .1))
 
-slice-write-front-5 : tie.Need-slice-write-front-5 Inv-loop μ-loop
-slice-write-front-5 c = simp length-set (omega arith)
+part-copy-end : tie.Need-part-copy-end
+part-copy-end c = search needs
 
-loop-holds : tie.Need-loop-holds Inv-loop μ-loop
-unfolding packed tab
-loop-holds c =
-    let a = c .before .before .before .args in
-    let v : List ℕ = 77 ∷ 66 ∷ a .number / 256 ∷ a .number % 256 ∷ a .qp ∷ [] in
-    (omega arith, simp length-set (search needs), growing-all v (a .front .now) (omega arith))
+copy-requires : tie.Need-copy-requires
+copy-requires c κs =
+    let s = c .before .before .before in
+    rw (rest-long (s .args .front .now) (started (s .args .kind .mark) (s .args .number) (s .args .qp)) refl (omega (arith, s .pre .0, s .pre .1)))
+    (omega (arith, s .pre .0, s .pre .1))
 
-mul-pack : tie.Need-mul-pack Inv-loop μ-loop
-mul-pack c = search needs
+same-length : tie.Need-same-length
+same-length c =
+    let s = c .before .before .before .before .before .before in
+    let a = s .args in
+    c .before .front .given .1 ∙ length-sets (a .front .now) 0 (started (a .kind .mark) (a .number) (a .qp))
 
-array-read-pack : tie.Need-array-read-pack Inv-loop μ-loop
-array-read-pack c = search needs
-
-mul-pack-2 : tie.Need-mul-pack-2 Inv-loop μ-loop
-mul-pack-2 c = search needs
-
-add-pack : tie.Need-add-pack Inv-loop μ-loop
-add-pack c = search needs
-
-array-read-pack-2 : tie.Need-array-read-pack-2 Inv-loop μ-loop
-array-read-pack-2 c = search needs
-
-pack-requires : tie.Need-pack-requires Inv-loop μ-loop
-pack-requires c κs = let s = c .before .before .before .before .before in (s .pre .1 (2 * c .before .loop .k), s .pre .1 (2 * c .before .loop .k + 1))
-
-add-front : tie.Need-add-front Inv-loop μ-loop
-add-front c = search needs
-
-slice-write-front-6 : tie.Need-slice-write-front-6 Inv-loop μ-loop
-slice-write-front-6 c = search needs
-
-add-k : tie.Need-add-k Inv-loop μ-loop
-add-k c = search needs
-
-loop-less : tie.Need-loop-less Inv-loop μ-loop
-loop-less c = search needs
-
-loop-again : tie.Need-loop-again Inv-loop μ-loop
-loop-again c =
-    let L = c .before .before in
-    let k = L .loop .k in
-    let z : 5 + (k + 1) ≡ 5 + k + 1 = omega arith in (
-      omega arith,
-      simp length-set (omega arith),
-      rw (z, packed-more (L .before .before .before .before .args .t3) k, ← (c .pack .ensures)) (growing-more (c .pack .result) (L .loop .inv .2) (omega arith)),
-    )
-
-same-length : tie.Need-same-length Inv-loop μ-loop
-same-length c = search needs
-
-returns : tie.Need-returns Inv-loop μ-loop
-unfolding frontOf
+returns : tie.Need-returns
 returns c =
-    let z : c .before .loop .k ≡ 8 = omega arith in
-    rw z at (growing-done (c .before .loop .inv .2) (omega arith))
+    let C = c .before .before in
+    let a = C .before .before .before .before .args in
+    let p = C .before .before .before .before .pre in
+    behind (a .front .now) (started (a .kind .mark) (a .number) (a .qp)) refl (a .more .now) (p .1 ∙ sym (p .0)) (C .copy .ensures .1) (c .before .front .given .1)
 
 pub write-front-spec : {M : Type 1} → statement M
 write-front-spec =
     tie.close
     (tie.spec
-    Inv-loop
-    μ-loop
-    cast-front
+    (λ c. search needs)
     slice-write-front
-    cast-front-2
+    (λ c. search needs)
     slice-write-front-2
-    cast-front-3
+    (λ c. search needs)
     slice-write-front-3
-    cast-front-4
+    (λ c. search needs)
     slice-write-front-4
     slice-write-front-5
-    loop-holds
-    mul-pack
-    array-read-pack
-    mul-pack-2
-    add-pack
-    array-read-pack-2
-    pack-requires
-    add-front
-    slice-write-front-6
-    add-k
-    loop-less
-    loop-again
+    sub-copy
+    part-copy-start
+    part-copy-end
+    copy-requires
     same-length
     returns)

@@ -3,20 +3,22 @@
 use crate::numbers::QPS;
 use crate::request::{held, with_each, wrong_lengths};
 use reference::calls::Argument::{self, Bytes, Number};
-use reference::record::{self, Macroblock, HEAD, MACROBLOCK};
+use reference::extremes::{dc_edges, dc_levels_at};
+use reference::record::{self, Four, Kind, Luma, Macroblock, Sixteen, HEAD, MACROBLOCK};
 use std::path::PathBuf;
 
-/// The names of the outside files of a kind: `rec`, a record file; `plane`, what an outside decoder rebuilt of it; `original`, the plane
-/// that an outside coder made the file of, at the QP that its name ends with.
-fn names(kind: &str) -> Vec<String> {
-    let files = std::fs::read_dir(OUTSIDE).expect("there is tests/outside");
+/// The folders of outside files: the base's, of 4x4 records only, and those of both kinds.
+const BASE: &str = ".";
+const BOTH: &str = "sixteen";
+
+/// The names of the outside files of a kind in a folder: `rec`, a record file; `plane`, what an outside decoder rebuilt of it;
+/// `original`, the plane that an outside coder made the file of, at the QP that its name ends with.
+fn names(folder: &str, kind: &str) -> Vec<String> {
+    let files = std::fs::read_dir(format!("{OUTSIDE}/{folder}")).expect("there is tests/outside");
     let paths = files.map(|file| file.expect("it can be read").path());
     let of_kind = paths.filter(|path| path.extension().is_some_and(|other| other == kind));
-    let stem = |path: PathBuf| {
-        path.file_stem()
-            .and_then(|stem| Some(stem.to_str()?.to_owned()))
-    };
-    let mut names: Vec<String> = of_kind.filter_map(stem).collect();
+    let name = |path: PathBuf| Some(format!("{folder}/{}", path.file_stem()?.to_str()?));
+    let mut names: Vec<String> = of_kind.filter_map(name).collect();
     names.sort();
     names
 }
@@ -31,7 +33,8 @@ fn samples(width: usize, height: usize) -> usize {
     256 * width * height
 }
 
-fn bytes(width: usize, height: usize) -> usize {
+/// What the coder is lent for the file.
+fn area(width: usize, height: usize) -> usize {
     HEAD + MACROBLOCK * width * height
 }
 
@@ -45,36 +48,65 @@ fn coding(size: [usize; 2], qp: u8, plane: Vec<u8>, file: usize, rebuilt: usize)
 
 /// Outputs of just the lengths of a plane.
 fn coding_whole([width, height]: [usize; 2], qp: u8, plane: Vec<u8>) -> Vec<Argument> {
-    let (file, rebuilt) = (bytes(width, height), plane.len());
+    let (file, rebuilt) = (area(width, height), plane.len());
     coding([width, height], qp, plane, file, rebuilt)
 }
 
 pub fn code_plane() -> Vec<Vec<Argument>> {
-    let outside = names("original").into_iter().map(|name| {
-        let expected = [outside(&name, "rec"), outside(&name, "plane")];
-        let (width, height) = record::read_head(&expected[0]).expect("it is a record file");
-        let qp = name.rsplit('-').next().and_then(|qp| qp.parse().ok());
-        let qp = qp.expect("its name ends with the QP");
-        let request = coding_whole([width, height], qp, outside(&name, "original"));
-        left(reference::calls::code_plane, &request, &expected);
-        request
-    });
     let good = coding_whole([1, 1], 28, vec![0; 256]);
     [
         bad_sizes(),
         wrong_lengths(&coding_whole([2, 1], 28, vec![0; 512])),
+        just_used(),
         with_each(&good, 2, &QPS),
         drawn(),
-        outside.collect(),
+        originals(BASE).map(|(_, request)| request).collect(),
+        originals(BOTH).map(as_outside).collect(),
     ]
     .concat()
+}
+
+/// The outside's originals, with their names.
+fn originals(folder: &str) -> impl Iterator<Item = (String, Vec<Argument>)> {
+    names(folder, "original").into_iter().map(|name| {
+        let file = outside(&name, "rec");
+        let (width, height) = record::read_head(&file).expect("it is a record file");
+        let qp = name.rsplit('-').next().and_then(|qp| qp.parse().ok());
+        let qp = qp.expect("its name ends with the QP");
+        let request = coding_whole([width, height], qp, outside(&name, "original"));
+        (name, request)
+    })
+}
+
+/// Held to the outside's file, behind which the area keeps its bytes, and to its rebuilt plane. (What the base's coder made of the
+/// base's originals is now made of them where 16x16 wins nowhere; tests/planes.rs has it.)
+fn as_outside((name, request): (String, Vec<Argument>)) -> Vec<Argument> {
+    let [.., Bytes(area), _] = request.as_slice() else {
+        unreachable!()
+    };
+    let file = outside(&name, "rec");
+    let file = [file.as_slice(), &area[file.len()..]].concat();
+    let expected = [file, outside(&name, "plane")];
+    left(reference::calls::code_plane, &request, &expected);
+    request
+}
+
+/// An area that has no more bytes than the coder would use.
+fn just_used() -> Vec<Vec<Argument>> {
+    let (width, height) = (2, 2);
+    let plane = plain(width, height, |x, y| x + y);
+    let (mut file, mut rebuilt) = (vec![0; area(width, height)], vec![0; plane.len()]);
+    let used = reference::code_plane(width, height, 20, &plane, &mut file, &mut rebuilt);
+    let used = used.expect("it is a good request");
+    assert!(used < file.len(), "16x16 wins nowhere");
+    vec![coding([width, height], 20, plane, used, rebuilt.len())]
 }
 
 /// Sizes with the lengths of a 1x1 plane, which would fit the greatest one too if its product wrapped, to 1; at QP 28, and two of them
 /// at QP 52: the size is asked before the lengths, and those before the QP.
 fn bad_sizes() -> Vec<Vec<Argument>> {
     const MAX: usize = usize::MAX;
-    let of = |size, qp| coding(size, qp, vec![0; 256], bytes(1, 1), 256);
+    let of = |size, qp| coding(size, qp, vec![0; 256], area(1, 1), 256);
     let sizes = [
         [0, 1],
         [1, 0],
@@ -90,10 +122,11 @@ fn bad_sizes() -> Vec<Vec<Argument>> {
     [at_28.as_slice(), &[of([129, 1], 52), of([2, 1], 52)]].concat()
 }
 
-/// A ramp under noise, so that the coder has several modes to choose, at several sizes and QPs.
+/// A ramp under noise, so that the coder has several modes to choose, at several sizes and QPs; and plain ones, on which 16x16 wins:
+/// a slope, rows, columns, and grey, where it ties with 4x4.
 fn drawn() -> Vec<Vec<Argument>> {
     let sizes = [[1, 1], [2, 1], [1, 3], [3, 2], [4, 4]];
-    let of = |size: [usize; 2]| {
+    let ramp = |size: [usize; 2]| {
         let mut noise = 1;
         let mut sample = |place: usize| {
             noise = (noise * 75 + 74) % 65537;
@@ -102,7 +135,24 @@ fn drawn() -> Vec<Vec<Argument>> {
         let plane: Vec<u8> = (0..samples(size[0], size[1])).map(&mut sample).collect();
         [0, 17, 28, 51].map(|qp| coding_whole(size, qp, plane.clone()))
     };
-    sizes.into_iter().flat_map(of).collect()
+    let on_plain = [
+        ([1, 1], 28, plain(1, 1, |_, _| 128)),
+        ([2, 2], 0, plain(2, 2, |x, y| x + 2 * y)),
+        ([3, 3], 44, plain(3, 3, |x, y| 255 - 2 * x - 3 * y)),
+        ([2, 3], 20, plain(2, 3, |x, _| x * x % 199)),
+        ([3, 2], 20, plain(3, 2, |_, y| y * y % 199)),
+    ];
+    let on_plain = on_plain.map(|(size, qp, plane)| coding_whole(size, qp, plane));
+    sizes.into_iter().flat_map(ramp).chain(on_plain).collect()
+}
+
+/// A plane by a rule for column x of row y.
+fn plain(width: usize, height: usize, sample: fn(usize, usize) -> usize) -> Vec<u8> {
+    let stride = 16 * width;
+    let places = 0..samples(width, height);
+    places
+        .map(|place| sample(place % stride, place / stride) as u8)
+        .collect()
 }
 
 /// Holds what the reference leaves in the outputs to these.
@@ -147,7 +197,8 @@ fn decoding(file: Vec<u8>, plane: usize) -> Vec<Argument> {
 }
 
 pub fn decode_plane() -> Vec<Vec<Argument>> {
-    let outside = names("rec").into_iter().map(|name| {
+    let names = [BASE, BOTH].map(|folder| names(folder, "rec")).concat();
+    let as_outside = names.into_iter().map(|name| {
         let plane = outside(&name, "plane");
         let request = decoding(outside(&name, "rec"), plane.len());
         left(reference::calls::decode_plane, &request, &[plane]);
@@ -158,9 +209,15 @@ pub fn decode_plane() -> Vec<Vec<Argument>> {
     [
         heads.to_vec(),
         fields(),
-        damaged(),
+        damaged("random-04"),
+        damaged("sixteen/random-02"),
+        surplus(),
+        other_marks(),
+        contents_of_sixteen(),
+        predictions_of_sixteen(),
+        dc_ends(),
         back(),
-        outside.collect(),
+        as_outside.collect(),
     ]
     .concat()
 }
@@ -174,8 +231,14 @@ fn fields() -> Vec<Vec<Argument>> {
             17, 0, -1, 3, -2, -1, 0, 0, 1, -2, -1, 1, -5, 2, last[0], last[1],
         ];
         let qp = 28;
-        let record = |number| Macroblock { qp, modes, levels }.record(number);
-        [head(2, 1), record(0).to_vec(), record(1).to_vec()].concat()
+        let record = |number| {
+            Macroblock {
+                qp,
+                luma: Luma::Four(Four { modes, levels }),
+            }
+            .record(number)
+        };
+        [head(2, 1), record(0), record(1)].concat()
     };
     let good = file([2; 16], [-5, -1]);
     let modes = [2, 0, 1, 3, 4, 5, 6, 7, 8, 2, 2, 2, 0, 1, 2, 8];
@@ -192,10 +255,10 @@ fn fields() -> Vec<Vec<Argument>> {
     files.map(|file| decoding(file, samples(2, 1))).collect()
 }
 
-/// A 2x2 file with wrong lengths; with each byte complemented; each of its beginnings; and with each byte exchanged for the next one,
-/// which leaves the sum as it is. Those that are refused stand first: their outputs are alike.
-fn damaged() -> Vec<Vec<Argument>> {
-    let file = outside("random-04", "rec");
+/// An outside file with wrong lengths; with each byte complemented; each of its beginnings; and with each byte exchanged for the next
+/// one, which leaves the sum as it is.
+fn damaged(name: &str) -> Vec<Vec<Argument>> {
+    let (file, plane) = (outside(name, "rec"), outside(name, "plane").len());
     let complemented = (0..file.len()).map(|place| changed(&file, place, !file[place]));
     let cut = (0..file.len()).map(|length| file[..length].to_vec());
     let exchanged = (1..file.len()).map(|place| {
@@ -204,25 +267,188 @@ fn damaged() -> Vec<Vec<Argument>> {
         file
     });
     let files = complemented.chain(cut).chain(exchanged);
-    let requests = files.map(|file| decoding(file, 1024));
-    let lengths = wrong_lengths(&decoding(file.clone(), 1024));
+    let requests = files.map(|file| decoding(file, plane));
+    let lengths = wrong_lengths(&decoding(file.clone(), plane));
+    refused_first(lengths.into_iter().chain(requests))
+}
+
+/// Those that are refused stand first: their outputs are alike.
+fn refused_first(requests: impl Iterator<Item = Vec<Argument>>) -> Vec<Vec<Argument>> {
     let refused = |request: &Vec<Argument>| {
         let mut request = request.clone();
         reference::calls::decode_plane(&mut request).is_err()
     };
-    let (refused, decoded): (Vec<_>, Vec<_>) =
-        lengths.into_iter().chain(requests).partition(refused);
+    let (refused, decoded): (Vec<_>, Vec<_>) = requests.partition(refused);
     [refused, decoded].concat()
 }
 
-/// The files that the coder makes of the drawn planes.
+/// Bytes behind the last record: one, a mark, one record more of either kind, and of both; also where the sum of the first record is
+/// wrong, which comes before them, and where its QP is none, which comes behind.
+fn surplus() -> Vec<Vec<Argument>> {
+    let [four, sixteen] = blanks().map(|blank| blank.record(1));
+    let both = [four.clone(), sixteen.clone()].concat();
+    let more = [vec![0], Kind::Sixteen.mark().to_vec(), four, sixteen, both];
+    let records = blanks().map(|blank| {
+        let mut broken = blank.record(0);
+        *broken.last_mut().expect("it has a sum") ^= 1;
+        let illegal = Macroblock {
+            qp: 52,
+            ..blank.clone()
+        };
+        [blank.record(0), broken, illegal.record(0)]
+    });
+    let records = records.into_iter().flatten();
+    let longer = |record: Vec<u8>| {
+        let file = [head(1, 1), record].concat();
+        more.clone()
+            .map(|more| decoding([file.clone(), more].concat(), 256))
+    };
+    records.flat_map(longer).collect()
+}
+
+/// A record that has the other kind's mark, and no other sum or that of its kind's length; a 4x4 record then has 7 bytes behind it.
+fn other_marks() -> Vec<Vec<Argument>> {
+    let marked = blanks().map(|macroblock| {
+        let mut record = macroblock.record(0);
+        let other = Kind::ALL
+            .into_iter()
+            .find(|&kind| kind != macroblock.kind());
+        let other = other.expect("there are two kinds");
+        record[..2].copy_from_slice(&other.mark());
+        let mut mended = record.clone();
+        mended.resize(mended.len().max(other.bytes()), 0);
+        let end = other.bytes() - 2;
+        let sum: u16 = mended[..end].iter().map(|&byte| u16::from(byte)).sum();
+        mended[end..end + 2].copy_from_slice(&sum.to_be_bytes());
+        [record, mended]
+    });
+    let files = marked.as_flattened().iter();
+    let files = files.map(|record| [&head(1, 1), record.as_slice()].concat());
+    files.map(|file| decoding(file, 256)).collect()
+}
+
+/// A macroblock of each kind without content.
+fn blanks() -> [Macroblock; 2] {
+    let (modes, levels) = ([2; 16], [[0; 16]; 16]);
+    let four = Macroblock {
+        qp: 28,
+        luma: Luma::Four(Four { modes, levels }),
+    };
+    [four, sixteen(28, 2, [0; 16], [[0; 15]; 16])]
+}
+
+fn sixteen(qp: u8, mode: u8, dc: [i16; 16], ac: [[i16; 15]; 16]) -> Macroblock {
+    Macroblock {
+        qp,
+        luma: Luma::Sixteen(Sixteen { mode, dc, ac }),
+    }
+}
+
+/// A 2x2 file of 16x16 records, each of which is in turn given every mode and some that are none, QPs behind the end beside a mode that
+/// is none, and an AC level out of range in every block: alone, beside DC values out of range, and beside a mode that is none.
+fn contents_of_sixteen() -> Vec<Vec<Argument>> {
+    let (slope, flat) = (
+        [9, 8, 7, 6, 5, 4, 3, 2, 1, 0, -1, -2, -3, -4, -5, -6],
+        [[0; 15]; 16],
+    );
+    let modes = [0, 1, 2, 3, 4, 255].map(|mode| sixteen(20, mode, slope, flat));
+    let qps = [51, 52, 255].map(|qp| sixteen(qp, 4, slope, flat));
+    let ranges = (0..16).flat_map(|block| {
+        let mut ac = flat;
+        ac[block][14 - block % 15] = -32768;
+        [(2, slope), (2, [32767; 16]), (4, slope)].map(|(mode, dc)| sixteen(20, mode, dc, ac))
+    });
+    let bad: Vec<Macroblock> = modes.into_iter().chain(qps).chain(ranges).collect();
+    let in_turn = (0..4).flat_map(|number| {
+        bad.iter().map(move |bad| {
+            let mut all = vec![sixteen(20, 2, slope, flat); 4];
+            all[number] = bad.clone();
+            decoding(record::file(2, 2, &all).expect("it is a size"), 1024)
+        })
+    });
+    refused_first(in_turn)
+}
+
+/// 16x16 predictions that one sum more or less would change: means of sides whose sum is a half, or one less; and planes that are
+/// clipped.
+fn predictions_of_sixteen() -> Vec<Vec<Argument>> {
+    let mean = |width, height, rest| {
+        let mut files = (1..).map(|seed| before_flat(width, height, seed));
+        let file = files.find(|file| sum_beside_last(width, height, file) == rest);
+        decoding(file.expect("some sum is this"), samples(width, height))
+    };
+    let steep = |first: i16, others: i16| {
+        let flat = |mode, level| {
+            let mut dc = [0; 16];
+            dc[0] = level;
+            sixteen(20, mode, dc, [[0; 15]; 16])
+        };
+        let all = [flat(2, first), flat(2, others), flat(2, others), flat(3, 0)];
+        decoding(record::file(2, 2, &all).expect("it is a size"), 1024)
+    };
+    vec![
+        mean(2, 1, 7),
+        mean(2, 1, 8),
+        mean(1, 2, 7),
+        mean(1, 2, 8),
+        mean(2, 2, 15),
+        mean(2, 2, 16),
+        steep(-1200, 1200),
+        steep(1200, -1200),
+    ]
+}
+
+/// Drawn 16x16 records of the DC mode before a last one without levels.
+fn before_flat(width: usize, height: usize, seed: u32) -> Vec<u8> {
+    let mut state = seed;
+    let mut all = vec![sixteen(12, 2, [0; 16], [[0; 15]; 16]); width * height];
+    let (_, drawn) = all.split_last_mut().expect("there is one");
+    for macroblock in drawn {
+        let mut ac = [[0; 15]; 16];
+        for level in ac.as_flattened_mut() {
+            state = state.wrapping_mul(1664525).wrapping_add(1013904223);
+            *level = (state >> 30) as i16 - 1;
+        }
+        *macroblock = sixteen(12, 2, [3; 16], ac);
+    }
+    record::file(width, height, &all).expect("it is a size")
+}
+
+/// What the samples beside the last macroblock add up to: the remainder by 16 for a side.
+fn sum_beside_last(width: usize, height: usize, file: &[u8]) -> u32 {
+    let mut plane = vec![0; samples(width, height)];
+    reference::decode_plane(file, &mut plane).expect("its levels are small");
+    let (stride, x, y) = (16 * width, 16 * (width - 1), 16 * (height - 1));
+    let above = (0..16).filter_map(|k| Some((x + k, y.checked_sub(1)?)));
+    let left = (0..16).filter_map(|k| Some((x.checked_sub(1)?, y + k)));
+    let beside: Vec<u32> = above
+        .chain(left)
+        .map(|(x, y)| plane[stride * y + x].into())
+        .collect();
+    beside.iter().sum::<u32>() % beside.len() as u32
+}
+
+/// For every QP the DC values next to the ends of 16 bits, in a 1x1 file, each at another place.
+fn dc_ends() -> Vec<Vec<Argument>> {
+    let of_qp = |qp: u8| {
+        let edges = dc_edges(qp).expect("it is a QP");
+        (0..).zip(edges).map(move |(edge, (sum, _))| {
+            let dc = dc_levels_at((usize::from(qp) + 5 * edge) % 16, sum);
+            let file = record::file(1, 1, &[sixteen(qp, 2, dc, [[0; 15]; 16])]);
+            decoding(file.expect("it is a size"), 256)
+        })
+    };
+    refused_first((0..=51).flat_map(of_qp))
+}
+
+/// The files that the coder makes of the drawn planes: the bytes that it used.
 fn back() -> Vec<Vec<Argument>> {
     let of = |mut request: Vec<Argument>| {
-        reference::calls::code_plane(&mut request).expect("it is a good request");
+        let used = reference::calls::code_plane(&mut request).expect("it is a good request");
         let [.., Bytes(file), Bytes(rebuilt)] = request.as_slice() else {
             unreachable!()
         };
-        let request = decoding(file.clone(), rebuilt.len());
+        let request = decoding(file[..used as usize].to_vec(), rebuilt.len());
         left(
             reference::calls::decode_plane,
             &request,

@@ -1,0 +1,4 @@
+pub mod Code
+pub mod Content
+pub mod Missing
+pub mod Rebuild

@@ -1,0 +1,9 @@
+pub mod CodedRecord
+pub mod Coding
+pub mod Contents
+pub mod Looks
+pub mod Own
+pub mod Rebuilding
+pub mod RecordFrom
+pub mod Unique
+pub mod Witness

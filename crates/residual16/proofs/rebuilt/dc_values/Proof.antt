@@ -1,0 +1,30 @@
+-- `residual16::rebuilt::dc_values` meets its contract. Assumes nothing.
+use mathlib.Core.Path.{sym, ap, subst, _∙_}
+use borrow.Author.Needs.{needs}
+use Rattle.whole.specs.Bounds.{Each}
+use Rattle.whole.proofs.Lists.{each-take}
+use Rattle.dc.specs.Dc.{lumaValues}
+use Rattle.residual16.specs.Rebuilt.{valuesIn}
+use Rattle.residual16.proofs.rebuilt.dc_values.Statement.{statement}
+use Rattle.residual16.proofs.rebuilt.dc_values.Tie as tie
+
+luma-values-requires : tie.Need-luma-values-requires
+luma-values-requires c κs =
+    let s = c .before .before .before .before in
+    (s .pre .0, subst (Each 32768) (sym (c .before .copy .ensures)) (each-take 32768 16 (s .args .levels .now) (s .pre .2)))
+
+returns : tie.Need-returns
+unfolding valuesIn
+returns c = c .luma-values .ensures ∙ ap (lumaValues _) (c .before .before .copy .ensures)
+
+pub dc-values-spec : {M : Type 1} → statement M
+dc-values-spec =
+    tie.close
+    (tie.spec
+    (λ c. search needs)
+    (λ c. search needs)
+    (λ c. search needs)
+    (λ c. search needs)
+    (λ c κs. search needs)
+    luma-values-requires
+    returns)

@@ -1,0 +1,5 @@
+pub mod Choice
+pub mod Code
+pub mod Plane
+pub mod Rules
+pub mod Samples
