@@ -29,7 +29,7 @@ use Rattle.residual.proofs.Order.{length-zigzag}
 use Rattle.residual.proofs.Own.{own-levels-in-range, own-numbers-fit}
 use Rattle.block.specs.Block.{residualOf, modeOf, codedMode, predictionOf, codedLevels}
 use Rattle.block.specs.Laws.{BlockLaws}
-use Rattle.block.proofs.Carried.{length-samples}
+use Rattle.block.proofs.Carries.{length-samples}
 
 pub residual-small : (samples prediction : List ℕ) → Bytes samples → Bytes prediction → Each 255 (residualOf samples prediction)
 unfolding residualOf

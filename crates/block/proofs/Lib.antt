@@ -1,4 +1,4 @@
-pub mod Carried
+pub mod Carries
 pub mod Laws
 pub mod Missing
 pub mod Outcome

@@ -7,11 +7,11 @@ use Prim.Native.Nat.{ℕ, _<_, _≤_}
 use lib.Dec.{ltb}
 use lib.ListN.{getD}
 use Rattle.lists.specs.Fold.{fold}
-use Rattle.lists.specs.Total.{total, distance}
+use Rattle.lists.specs.Total.{total, gap}
 
 -- the sum of absolute differences over n samples
 unfoldable pub sad : ℕ → List ℕ → List ℕ → ℕ
-sad n a b = total n (λ k. distance (getD a k 0) (getD b k 0))
+sad n a b = total n (λ k. gap (getD a k 0) (getD b k 0))
 
 -- what a mode costs, if it is permitted
 pub data Cost : Type 0 where

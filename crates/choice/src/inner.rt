@@ -5,7 +5,7 @@ ghost use lib.ListN.{length};
 ghost use Rattle.choice.specs.Choice as paper;
 ghost use Rattle.choice.specs.Choice.{is, nothing};
 ghost use Rattle.choice.specs.Code.{standing, looked};
-use whole::inner::distance;
+use whole::inner::gap;
 
 // The best mode so far and its cost.
 pub struct Standing {
@@ -20,7 +20,7 @@ pub fn sad(a: &[u8], b: &[u8]) -> u16
 {
     let mut sum: u16 = 0;
     for k in 0..a.len() {
-        sum += distance(a[k], b[k]) as u16;
+        sum += gap(a[k], b[k]) as u16;
     }
     sum
 }

@@ -1,5 +1,4 @@
 -- What the tests come to, and when the entry points refuse.
---     none-large, all-small                               n values of which a scan found none too large
 --     Codable, codable                                    what those tests tell where they pass
 --     dc-values-fine                                      to values, over how many
 --     luma-dc-levels-refuses-exactly-if, luma-dc-values-refuses-exactly-if,
@@ -15,7 +14,8 @@ use lib.ListN.{length}
 use Rattle.lists.specs.Chain.{scanTest, chain, pass, ExactlyIf}
 use Rattle.lists.proofs.Chain.{chain-exactly-if, scan-none}
 use Rattle.whole.specs.Bounds.{Each}
-use Rattle.whole.proofs.Range.{at-end, none-each}
+use Rattle.whole.specs.Range.{firstOutside}
+use Rattle.whole.proofs.Range.{none-each}
 use Rattle.refusal.specs.Number.{said}
 use Rattle.refusal.specs.declared.Answer.{Answer}
 use Rattle.refusal.specs.declared.Refusal.the-variants as refusal
@@ -24,17 +24,9 @@ use Rattle.quantizer.specs.Range.{highest}
 use Rattle.quantizer.proofs.Range.{number-legal}
 use Rattle.residual.specs.Entry.{firstWide, lentTests}
 use Rattle.residual.proofs.Entry.{lent-fine}
-use Rattle.dc.specs.Entry.{firstLarge, dcLevelsTests, lumaLevelsTests, LumaLevels, lumaValuesTests, LumaValues, chromaLevelsTests, ChromaLevels, chromaValuesTests, ChromaValues}
+use Rattle.dc.specs.Entry.{dcLevelsTests, lumaLevelsTests, LumaLevels, lumaValuesTests, LumaValues, chromaLevelsTests, ChromaLevels, chromaValuesTests, ChromaValues}
 
 -- ---- to levels
-
--- of n values a scan that found none before n saw them all within 4080
-module _ (n : ℕ) (dc : List ℤ) (long : length dc ≡ n) (h : n ≤ firstLarge dc) where
-  pub none-large : firstLarge dc ≡ n
-  none-large = at-end (negsuc 4079) (pos 4080) dc n long h
-
-  pub all-small : Each 4080 dc
-  all-small = none-each (negsuc 4079) (pos 4080) dc 4080 tt tt (omega arith)
 
 -- n DC values within 4080, and a legal quantizer
 pub record Codable (n qp : ℕ) (dc : List ℤ) : Type 0 where
@@ -46,8 +38,8 @@ pub codable : (n qp : ℕ) (dc out : List ℤ) → chain (dcLevelsTests n qp dc 
 codable n qp dc out e =
     let a = chain-exactly-if (dcLevelsTests n qp dc out) .passes .0 e in
     let l : length dc ≡ n = eqb-true (length dc) n (a .0) in
-    let none : firstLarge dc ≡ n = eqb-true (firstLarge dc) n (a .1 .1 .1 .0) in
-    record { long = l; legal = number-legal 0 qp (a .1 .1 .0); small = all-small n dc l (omega arith) }
+    let none : firstOutside (negsuc 4079) (pos 4080) dc ≡ n = eqb-true (firstOutside (negsuc 4079) (pos 4080) dc) n (a .1 .1 .1 .0) in
+    record { long = l; legal = number-legal 0 qp (a .1 .1 .0); small = none-each (negsuc 4079) (pos 4080) dc 4080 tt tt (omega arith) }
 
 -- ---- to values: n levels that fit 16 bits, and no value too far before n; far is the first, in the order of the levels
 

@@ -13,6 +13,7 @@ use Rattle.lists.proofs.Chain.{scan-none}
 use Rattle.lists.proofs.Tab.{length-tab}
 use Rattle.whole.specs.Bounds.{Each}
 use Rattle.whole.specs.Notation.{minus}
+use Rattle.whole.specs.Range.{firstOutside}
 use Rattle.whole.proofs.Lists.{each-tab, each-less}
 use Rattle.whole.proofs.Range.{within-inside, each-none}
 use Rattle.whole.proofs.Steps.{each-at}
@@ -23,7 +24,6 @@ use Rattle.residual.specs.Entry.{lentTests, withDcTests}
 use Rattle.residual.proofs.Entry.{lent-fine}
 use Rattle.residual.proofs.Own.{ac-numbers, own-ac-pass}
 use Rattle.dc.specs.Dc.{dcOf, lumaLevels, lumaValues, chromaLevels, chromaValues}
-use Rattle.dc.specs.Entry.{firstLarge}
 use Rattle.dc.specs.Path.{acOf, DcPath}
 use Rattle.dc.proofs.Own.{own-dc-in-range, own-chroma-dc-in-range}
 
@@ -39,7 +39,7 @@ module _ (n qp : ℕ) (blocks : ℕ → List ℤ) where
     dc-path = record {
       coded =
           λ out room. scan-none (lentTests n qp (length (dcOf n blocks)) (length out)) (lent-fine n qp (length (dcOf n blocks)) (length out) length-dc room legal)
-          n (firstLarge (dcOf n blocks)) Residual [] (each-none (minus 4080) (pos 4080) (dcOf n blocks) 4080 tt tt dc-small ∙ length-dc);
+          n (firstOutside (minus 4080) (pos 4080) (dcOf n blocks)) Residual [] (each-none (minus 4080) (pos 4080) (dcOf n blocks) 4080 tt tt dc-small ∙ length-dc);
       rebuilt = λ k h dc fits. own-ac-pass qp legal (blocks k) (small k h) dc fits;
       numbers = λ k h dc fits. ac-numbers qp legal (blocks k) (small k h) dc fits;
     }

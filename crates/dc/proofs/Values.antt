@@ -1,43 +1,42 @@
 -- Laws of the DC values.
---     products-within                   numbers times the scale of class a, over the power of two
+--     products-fit                      that the code can take numbers times the scale of class a, over the power of two
 --     luma-back, chroma-back            g of levels of 16 bits
 --     scaled-by                         n numbers rescaled by a rule
---     scaled-low, scaled-high           the scaling rule at k = 2, as the code has it: at a known period below 2, and from 2 on
 --     chroma-shift, chroma-values-length       chroma's plain shift, and that its values are four
 -- Assumes nothing.
-use mathlib.Core.Path.{_≡_, sym, ap, subst, _∙_}
+use mathlib.Core.Path.{_≡_, sym, ap, _∙_}
 use mathlib.Core.List.{List}
-use Prim.Native.Nat.{ℕ, _+_, _-_, _*_, _^_, _<_, _≤_}
+use Prim.Native.Nat.{ℕ, _*_, _^_, _<_, _≤_}
 use native.Mathlib.Nat.{mul-le-mul}
 use native.Mathlib.Omega.{arith}
-use borrow.Author.Tests.{le-leb, lt-leb}
-use lib.IntN.{ℤ, pos, natAbs, _+ℤ_, _*ℤ_, +ℤ-idr}
-use lib.ListN.{length, getD}
+use lib.Dec.{T, leb}
+use lib.IntN.{ℤ, pos, _+ℤ_, _*ℤ_, +ℤ-idr}
+use lib.ListN.{length, getD, replicate, getD-replicate}
 use lib.Pow.{pow-mono}
 use lib.Signed.{shrZ}
 use Rattle.lists.specs.Tab.{tab}
-use Rattle.lists.proofs.Tab.{length-tab}
-use Rattle.whole.specs.Bounds.{Within, Each}
-use Rattle.whole.proofs.Bound.{abs-mul}
-use Rattle.whole.proofs.Laws.{*ℤ-assoc, shr-one}
+use Rattle.lists.proofs.Tab.{tab-same, length-tab}
+use Rattle.whole.specs.Bounds.{Each}
+use Rattle.whole.proofs.Laws.{*ℤ-assoc}
 use Rattle.whole.proofs.Steps.{each-at}
 use Rattle.transform.specs.Hadamard.{H4, H2, hadamard}
 use Rattle.transform.proofs.Bounds.{hadamard4-each, hadamard2-each}
 use Rattle.quantizer.specs.Range.{remainderOf}
 use Rattle.quantizer.specs.declared.Class.the-variants.{A}
 use Rattle.quantizer.proofs.Tables.{v-small}
-use Rattle.residual.specs.Rescale.{scaledBy}
+use Rattle.residual.specs.Rescale.{Scalable}
+use Rattle.residual.proofs.Rescale.{scalable}
 use Rattle.dc.specs.Dc.{vA, chromaScaled, chromaValues}
 
 -- ---- bounds
 
--- numbers within B and a power up to n
-pub products-within : (B n qp power : ℕ) (g : List ℤ) {scale : ℤ} → scale ≡ pos (vA qp * 2 ^ power) → power ≤ n → Each B g
-    → (k : ℕ) → Within (B * (29 * 2 ^ n)) (getD g k (pos 0) *ℤ scale)
-products-within B n qp power g e h b k = record {
-  size = subst (λ (m : ℕ). m ≤ B * (29 * 2 ^ n)) (sym (ap (λ (z : ℤ). natAbs (getD g k (pos 0) *ℤ z)) e ∙ abs-mul (getD g k (pos 0)) (pos (vA qp * 2 ^ power))))
-      (mul-le-mul (each-at B g b k .size) (mul-le-mul (v-small (remainderOf qp) (omega arith) A) (pow-mono {i = power} {j = n} h)));
-}
+-- numbers within B and a power up to m
+pub products-fit : (B m n qp power : ℕ) (g : List ℤ) {scale : ℕ} → scale ≡ vA qp * 2 ^ power → power ≤ m → Each B g
+    → T (leb (29 * 2 ^ m) 29696) → T (leb (B * (29 * 2 ^ m)) 973078528)
+    → (k : ℕ) → k < n → Scalable (getD g k (pos 0)) (getD (replicate n scale) k 0)
+products-fit B m n qp power g {scale} e h b low room k l =
+    rw (getD-replicate n k scale 0 l, e)
+    (scalable B (vA qp * 2 ^ power) (29 * 2 ^ m) (each-at B g b k) (mul-le-mul (v-small (remainderOf qp) (omega arith) A) (pow-mono {i = power} {j = m} h)) low room)
 
 pub luma-back : (levels : List ℤ) → Each 32768 levels → Each 524288 (hadamard 4 H4 levels)
 luma-back levels h = hadamard4-each 32768 levels h
@@ -45,32 +44,22 @@ luma-back levels h = hadamard4-each 32768 levels h
 pub chroma-back : (levels : List ℤ) → Each 32768 levels → Each 131072 (hadamard 2 H2 levels)
 chroma-back levels h = hadamard2-each 32768 levels h
 
--- ---- n numbers rescaled, as the code has them: each by a rule that the product, what is added and the divisor meet
+-- ---- n numbers rescaled by one scale, as the code has them: each by a rule that scale, what is added and the shift meet
 
-pub scaled-by : (n qp power : ℕ) (g : List ℤ) (scale round : ℤ) (divisor : ℕ) (rule : ℤ → ℤ) {r : List ℤ}
-    → r ≡ tab (length g) (λ k. shrZ (getD g k (pos 0) *ℤ scale +ℤ round) divisor)
+pub scaled-by : (n qp power round shift : ℕ) (g : List ℤ) (rule : ℤ → ℤ) {scale added down : ℕ} {r : List ℤ}
+    → r ≡ tab (length g) (λ k. shrZ (getD g k (pos 0) *ℤ pos (getD (replicate n scale) k 0) +ℤ pos added) (2 ^ down))
     → length g ≡ n
-    → scale ≡ pos (vA qp * 2 ^ power)
-    → ((x : ℤ) → shrZ (x *ℤ pos (vA qp * 2 ^ power) +ℤ round) divisor ≡ rule x)
+    → scale ≡ vA qp * 2 ^ power
+    → added ≡ round
+    → down ≡ shift
+    → ((x : ℤ) → shrZ (x *ℤ pos (vA qp * 2 ^ power) +ℤ pos round) (2 ^ shift) ≡ rule x)
     → r ≡ tab n (λ k. rule (getD g k (pos 0)))
-scaled-by n qp power g scale round divisor rule made long e h =
-    made ∙ (λ i. tab (long i) (λ k. shrZ (getD g k (pos 0) *ℤ e i +ℤ round) divisor)) ∙ (λ i. tab n (λ k. h (getD g k (pos 0)) i))
-
--- ---- luma
-
-module _ (v : ℕ) (x : ℤ) (p : ℕ) where
-  pub scaled-low : (q : ℕ) → q ≡ p → p < 2 → shrZ (x *ℤ pos (v * 2 ^ (p - 2)) +ℤ pos (2 ^ (2 - q - 1))) (2 ^ (2 - q)) ≡ scaledBy 2 p (x *ℤ pos v)
-  unfolding scaledBy
-  scaled-low q e h =
-      let none : p - 2 ≡ 0 = omega arith in
-      let one : v * 1 ≡ v = omega arith in
-      rw (lt-leb 2 p h, none, one, e)
-
-  pub scaled-high : 2 ≤ p → shrZ (x *ℤ pos (v * 2 ^ (p - 2)) +ℤ pos 0) (2 ^ 0) ≡ scaledBy 2 p (x *ℤ pos v)
-  unfolding scaledBy
-  scaled-high h =
-      rw (le-leb 2 p h)
-      (shr-one (x *ℤ pos (v * 2 ^ (p - 2)) +ℤ pos 0) ∙ +ℤ-idr (x *ℤ pos (v * 2 ^ (p - 2))) ∙ sym (*ℤ-assoc x (pos v) (pos (2 ^ (p - 2)))))
+scaled-by n qp power round shift g rule {scale} {added} {down} made long e a d h =
+    made
+    ∙ (λ i. tab (long i) (λ k. shrZ (getD g k (pos 0) *ℤ pos (getD (replicate n scale) k 0) +ℤ pos (a i)) (2 ^ d i)))
+    ∙ tab-same n _ _ (λ k l.
+    ap (λ (m : ℕ). shrZ (getD g k (pos 0) *ℤ pos m +ℤ pos round) (2 ^ shift)) (getD-replicate n k scale 0 l ∙ e)
+    ∙ h (getD g k (pos 0)))
 
 -- ---- chroma
 

@@ -11,18 +11,13 @@ use Rattle.refusal.specs.declared.Answer.{Answer}
 use Rattle.refusal.specs.declared.Refusal.{Refusal}
 use Rattle.refusal.specs.declared.Refusal.the-variants as refusal
 use Rattle.whole.specs.Notation.{minus}
-use Rattle.whole.specs.Range.{firstOutside}
-use Rattle.residual.specs.Entry.{firstWide, lentTests, rangeTest}
+use Rattle.residual.specs.Entry.{firstWide, lentTests, residualTests, rangeTest}
 use Rattle.dc.specs.Dc.{lumaLevels, lumaValues, chromaLevels, chromaValues}
 
--- RESIDUAL: "DC coefficient outside -4080..4080", "first index"
-abbrev pub firstLarge : List ℤ → ℕ
-firstLarge dc = firstOutside (minus 4080) (pos 4080) dc
-
--- ---- to levels, of n values: LENGTH, QUANTIZER, RESIDUAL
+-- ---- to levels, of n values: LENGTH, QUANTIZER, RESIDUAL, "DC coefficient outside -4080..4080"
 
 abbrev pub dcLevelsTests : ℕ → ℕ → List ℤ → List ℤ → List (Test Refusal)
-dcLevelsTests n qp dc out = lentTests n qp (length dc) (length out) ++ (scanTest n (firstLarge dc) refusal.Residual ∷ [])
+dcLevelsTests n qp dc out = residualTests n (minus 4080) (pos 4080) qp dc (length out)
 
 -- ---- luma_dc_levels: these of sixteen
 

@@ -1,11 +1,7 @@
 // Levels and values of the DC paths over arrays by value, for callers that have tested their numbers.
 ghost use mathlib.Core.Path.{_≡_};
-ghost use Prim.Native.Nat.{ℕ, _-_, _^_, _<_, _≤_};
-ghost use lib.IntN.{pos, _+ℤ_, _*ℤ_};
-ghost use lib.ListN.{length, getD};
-ghost use lib.Signed.{shrZ};
-ghost use Rattle.lists.specs.Tab.{tab};
-ghost use Rattle.whole.specs.Bounds.{Within, Each};
+ghost use Prim.Native.Nat.{_≤_};
+ghost use Rattle.whole.specs.Bounds.{Each};
 ghost use Rattle.quantizer.specs.Range.{highest};
 ghost use Rattle.dc.specs.Dc.{lumaLevels, lumaScaled, lumaValues, chromaLevels, chromaValues};
 use quantizer::Class;
@@ -41,33 +37,6 @@ pub(crate) fn chroma_levels(quantizer: Quantizer, dc: [i32; 4]) -> [i32; 4]
     t
 }
 
-// One rescaled number: a product, rounded and shifted down.
-fn scaled(g: i32, scale: i32, round: i32, shift: u32) -> i32
-    requires { ⌜ (Within 973078528 (g *ℤ scale)) × (Within 2 round) × (shift ≤ 2) ⌝ }
-    ensures { λ r. ⌜ r ≡ shrZ (g *ℤ scale +ℤ round) (2 ^ shift) ⌝ }
-{
-    (g * scale + round) >> shift
-}
-
-// Each number of a slice rescaled, in its place.
-fn scale_all(values: &mut [i32], scale: i32, round: i32, shift: u32)
-    requires { ⌜ ((k : ℕ) → k < length (now values) → Within 973078528 (getD (now values) k (pos 0) *ℤ scale)) × (Within 2 round) × (shift ≤ 2) ⌝ }
-    ensures { λ r. ⌜ now (values .exit) ≡ tab (length (now (values .entry))) (λ k. shrZ (getD (now (values .entry)) k (pos 0) *ℤ scale +ℤ round) (2 ^ shift)) ⌝ }
-{
-    let mut k = 0;
-    while k < values.len() {
-        values[k] = scaled(values[k], scale, round, shift);
-        k += 1;
-    }
-}
-
-// How far a period is above 2: the power of two that is left where luma's shift by 2 has been taken off.
-fn above_two(period: u8) -> u8
-    ensures { λ r. ⌜ r ≡ period - 2 ⌝ }
-{
-    if period < 2 { 0 } else { period - 2 }
-}
-
 // Sixteen numbers that came through H, rescaled: below period 2 the shift is down, and rounds.
 fn luma_scaled(quantizer: Quantizer, g: [i32; 16]) -> [i32; 16]
     requires { ⌜ (quantizer .qp ≤ highest) × (Each 524288 g) ⌝ }
@@ -75,12 +44,10 @@ fn luma_scaled(quantizer: Quantizer, g: [i32; 16]) -> [i32; 16]
 {
     let mut values = g;
     let period = quantizer.period();
-    let scale = residual::inner::scale(quantizer, Class::A, above_two(period)) as i32;
-    match period {
-        0 => scale_all(&mut values, scale, 2, 2),
-        1 => scale_all(&mut values, scale, 1, 1),
-        _ => scale_all(&mut values, scale, 0, 0),
-    }
+    let scale = residual::inner::scale(quantizer, Class::A, residual::inner::beyond(period, 2));
+    let shift = residual::inner::beyond(2, period) as u32;
+    let same = [scale; 16];
+    residual::inner::scale_all(&mut values, &same, residual::inner::half(shift), shift);
     values
 }
 
@@ -99,7 +66,8 @@ pub(crate) fn chroma_values(quantizer: Quantizer, levels: [i32; 4]) -> [i32; 4]
     ensures { λ r. ⌜ r ≡ chromaValues (quantizer .qp) levels ⌝ }
 {
     let mut values = transform::inner::hadamard2(levels);
-    let scale = residual::inner::scale(quantizer, Class::A, quantizer.period()) as i32;
-    scale_all(&mut values, scale, 0, 1);
+    let scale = residual::inner::scale(quantizer, Class::A, quantizer.period());
+    let same = [scale; 4];
+    residual::inner::scale_all(&mut values, &same, 0, 1);
     values
 }

@@ -12,6 +12,7 @@ use native.Mathlib.Omega.{arith}
 use lib.Dec.{T, eqb, ltb, eqb→eq, ltb→lt}
 use lib.IntN.{ℤ, pos, negsuc, negℤ, natAbs, _+ℤ_, _-ℤ_, _*ℤ_, +ℤ-idr}
 use lib.ListN.{getD}
+use Rattle.lists.specs.Tab.{grid}
 use Rattle.lists.proofs.Every.{every-at}
 use Rattle.lists.proofs.Tab.{getD-tab}
 use Rattle.whole.specs.Bounds.{Within}
@@ -148,7 +149,7 @@ sums-near D i j a b =
 
 -- with the last rounding: 4 * 32 and 9
 pub inverse-near : (d : List ℤ) (place : ℕ) → place < 16 → Within 137 (pos 256 *ℤ getD (inverse d) place (pos 0) -ℤ bothSides Basis (raster 4 d) (place / 4) (place % 4))
-unfolding inverse
+unfolding inverse grid
 inverse-near d place h =
     let i = place / 4 in
     let j = place % 4 in

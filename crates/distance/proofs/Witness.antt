@@ -3,7 +3,7 @@ use mathlib.Core.Path.{_≡_, refl}
 use mathlib.Core.List.{List, [], _∷_}
 use Prim.Native.Nat.{ℕ}
 use lib.ListN.{replicate}
-use Rattle.lists.specs.Tab.{tab}
+use Rattle.lists.specs.Tab.{tab, grid}
 use Rattle.whole.specs.Clip.{clip}
 use Rattle.transform.specs.Forward.{forward}
 use Rattle.transform.specs.Inverse.{inverse}
@@ -33,5 +33,5 @@ abbrev grey : List ℕ
 grey = replicate 16 128
 
 pub promise-met : distanceAt farOff 2 (rebuiltAt grey (numbersSent 33 farOff grey) 2) ∷ samplesOff 33 ∷ [] ≡ 72 ∷ 72 ∷ []
-unfolding tab clip forward inverse quantized inZigzag inPlaces levelBy added rebuiltSamples scaledBy rescaled residualOf
+unfolding grid tab clip forward inverse quantized inZigzag inPlaces levelBy added rebuiltSamples scaledBy rescaled residualOf
 promise-met = refl

@@ -9,7 +9,7 @@ use mathlib.Core.List.{List}
 use Prim.Native.Nat.{ℕ, _*_, _<_, _≤_}
 use native.Mathlib.Omega.{arith}
 use lib.ListN.{getD}
-use Rattle.lists.specs.Total.{total, distance}
+use Rattle.lists.specs.Total.{total, gap}
 use Rattle.lists.specs.Bytes.{Bytes}
 use Rattle.choice.specs.Choice.{is, at, bestOf, Least, sad}
 use Rattle.choice.proofs.Least.{best-is, best-least, some-best, clash, same}
@@ -24,7 +24,7 @@ module _ (n : ℕ) (block : List ℕ) {s : ℕ} where
   cost-holds true l e c = refl
   cost-holds false l e c = clash c (ap (costOf n block) e)
 
-  cost-sum : (p : Predicted) → costOf n block p ≡ is s → s ≡ total (n * n) (λ k. distance (getD (samplesOf p) k 0) (getD block k 0))
+  cost-sum : (p : Predicted) → costOf n block p ≡ is s → s ≡ total (n * n) (λ k. gap (getD (samplesOf p) k 0) (getD block k 0))
   unfolding sad
   cost-sum (samples l) q = same refl (sym q)
   cost-sum none q = clash refl (sym q)
@@ -52,5 +52,5 @@ module _ (r : Round) (block : List ℕ) where
     lower-on-tie = chosen-least .lower
 
     -- the SAD that comes back is the sum over the chosen mode's own samples
-    pub sad-is-the-sum : s ≡ total 16 (λ k. distance (getD (samplesOf (predicted r m)) k 0) (getD block k 0))
+    pub sad-is-the-sum : s ≡ total 16 (λ k. gap (getD (samplesOf (predicted r m)) k 0) (getD block k 0))
     sad-is-the-sum = cost-sum 4 block (predicted r m) (chosen-least .costs)

@@ -7,5 +7,5 @@ total zero f = 0
 total (suc n) f = total n f + f n
 
 -- |a - b|: one of the two differences is 0
-abbrev pub distance : ℕ → ℕ → ℕ
-distance a b = (a - b) + (b - a)
+abbrev pub gap : ℕ → ℕ → ℕ
+gap a b = (a - b) + (b - a)

@@ -50,7 +50,7 @@ abbrev answered : (m : ℕ) → List ℕ → List ℕ
 answered m part = number (chain (contentTests16 (layoutOf 2 2) m part)) ∷ place (chain (contentTests16 (layoutOf 2 2) m part)) ∷ []
 
 pub dc-before-ac : (answered 3 (twoLevels 51 2 63 255 4 176) ≡ 6 ∷ 48 ∷ []) × (answered 3 (twoLevels 51 2 0 0 4 176) ≡ 6 ∷ 51 ∷ [])
-unfolding permitted flagsRound presentRound macroblockPresent allLevelsIn tab first dcFits valuesIn lumaValues lumaScaled hadamard inPlaces inZigzag scaledBy firstOutside inside firstAc acFits acNumbers acIn rescaled
+unfolding permitted flagsRound presentRound macroblockPresent allLevelsIn grid tab first dcFits valuesIn lumaValues lumaScaled hadamard inPlaces inZigzag scaledBy firstOutside inside firstAc acFits acNumbers acIn rescaled
 dc-before-ac = (refl, refl)
 
 pub mode-before-range : answered 3 (twoLevels 51 4 63 255 4 176) ≡ 3 ∷ 48 ∷ []
@@ -58,7 +58,7 @@ unfolding permitted flagsRound presentRound macroblockPresent
 mode-before-range = refl
 
 pub plane-needs-all : (answered 1 (twoLevels 28 3 0 0 0 0) ≡ 3 ∷ 16 ∷ []) × (answered 2 (twoLevels 28 3 0 0 0 0) ≡ 3 ∷ 32 ∷ []) × (answered 3 (twoLevels 28 3 0 0 0 0) ≡ 0 ∷ 0 ∷ [])
-unfolding permitted bitOf flagsRound presentRound macroblockPresent allLevelsIn tab first dcFits valuesIn lumaValues lumaScaled hadamard inPlaces inZigzag scaledBy firstOutside inside firstAc acFits acNumbers acIn rescaled
+unfolding permitted bitOf flagsRound presentRound macroblockPresent allLevelsIn grid tab first dcFits valuesIn lumaValues lumaScaled hadamard inPlaces inZigzag scaledBy firstOutside inside firstAc acFits acNumbers acIn rescaled
 plane-needs-all = (refl, refl, refl)
 
 -- no neighbour is present

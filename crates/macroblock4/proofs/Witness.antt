@@ -50,7 +50,7 @@ oneLevel qp last high low = (77 ∷ 66 ∷ 0 ∷ 0 ∷ qp ∷ []) ++ replicate 7
 -- level 16 at QP 12 adds 10, at QP 0 it adds 3
 pub own-qp : (rebuiltSamples (replicate 16 128) (rescaledIn (oneLevel 12 34 0 16) 0) ≡ replicate 16 138)
     × (rebuiltSamples (replicate 16 128) (rescaledIn (set (oneLevel 12 34 0 16) 4 0) 0) ≡ replicate 16 131)
-unfolding rescaledIn rescaled inPlaces scaledBy levelsIn tab first rebuiltSamples added clip inverse
+unfolding rescaledIn rescaled inPlaces scaledBy levelsIn grid tab first rebuiltSamples added clip inverse
 own-qp = (refl, refl)
 
 abbrev answered : (width height m : ℕ) → List ℕ → List ℕ

@@ -14,7 +14,7 @@ use lib.Dec.{T, eqb, ltb, leb, eqb→eq, ltb→lt, leb→le}
 use lib.ListN.{getD}
 use Rattle.lists.specs.Every.{every}
 use Rattle.lists.specs.Tab.{tab}
-use Rattle.lists.specs.Total.{distance}
+use Rattle.lists.specs.Total.{gap}
 use Rattle.lists.proofs.Every.{every-at}
 use Rattle.lists.proofs.Turned.{turnedPlace}
 use Rattle.quantizer.specs.Tables.{mfTable, vTable, mfOf, vOf, columnOf, ofClass, zigzagOf, stepOf, classAtPlace}
@@ -82,9 +82,9 @@ gainOf B = 25
 gainOf C = 20
 
 close : ℕ → ℕ → Bool
-close r c = leb (distance (getD mfTable (3 * r + c) 0 * getD vTable (3 * r + c) 0 * getD (16 ∷ 25 ∷ 20 ∷ []) c 0) (2 ^ 21)) 277
+close r c = leb (gap (getD mfTable (3 * r + c) 0 * getD vTable (3 * r + c) 0 * getD (16 ∷ 25 ∷ 20 ∷ []) c 0) (2 ^ 21)) 277
 
-pub tables-agree : (r : ℕ) → r < 6 → (c : Class) → distance (mfOf r c * vOf r c * gainOf c) (2 ^ 21) ≤ 277
+pub tables-agree : (r : ℕ) → r < 6 → (c : Class) → gap (mfOf r c * vOf r c * gainOf c) (2 ^ 21) ≤ 277
 unfolding close
 tables-agree r h A = leb→le _ _ (every-at 6 (λ i. close i 0) tt r h)
 tables-agree r h B = leb→le _ _ (every-at 6 (λ i. close i 1) tt r h)

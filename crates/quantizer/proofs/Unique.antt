@@ -19,8 +19,8 @@ use Rattle.quantizer.proofs.inner.by_class.Kinds as by-class
 use Rattle.quantizer.proofs.inner.by_class.Reads as by-class-reads
 use Rattle.quantizer.proofs.inner.zigzag.Kinds as zigzag
 use Rattle.quantizer.proofs.inner.zigzag.Reads as zigzag-reads
-use Rattle.quantizer.proofs.inner.step.Kinds as step
-use Rattle.quantizer.proofs.inner.step.Reads as step-reads
+use Rattle.quantizer.proofs.inner.steps.Kinds as steps
+use Rattle.quantizer.proofs.inner.steps.Reads as steps-reads
 
 pub quantizer-new-unique : Unique 0 quantizer-new.ps quantizer-new.r quantizer-new-reads.Learnt (Unit {0}) (λ κs e. tt)
 quantizer-new-unique κs a x y e f p q = (same-built x y (says-same (p .says) ∙ sym (says-same (q .says))) (p .value ∙ sym (q .value)), refl)
@@ -41,10 +41,10 @@ pub by-class-unique : Unique 0 by-class.ps by-class.r by-class-reads.Learnt (Uni
 by-class-unique κs a x y e f p q = (p ∙ sym q, refl)
 
 pub zigzag-unique : Unique 0 zigzag.ps zigzag.r zigzag-reads.Learnt (Unit {0}) (λ κs e. tt)
-zigzag-unique κs a x y e f p q = (p .0 ∙ sym (q .0), refl)
+zigzag-unique κs a x y e f p q = (p ∙ sym q, refl)
 
-pub step-unique : Unique 0 step.ps step.r step-reads.Learnt (Unit {0}) (λ κs e. tt)
-step-unique κs a x y e f p q = (p .0 ∙ sym (q .0), refl)
+pub steps-unique : Unique 0 steps.ps steps.r steps-reads.Learnt (Unit {0}) (λ κs e. tt)
+steps-unique κs a x y e f p q = (p ∙ sym q, refl)
 
 pub chroma-quantizer-unique : Unique 0 chroma-quantizer.ps chroma-quantizer.r chroma-quantizer-reads.Learnt (Unit {0}) (λ κs e. tt)
 chroma-quantizer-unique κs a x y e f p q = (same-built x y (says-same (p .says) ∙ sym (says-same (q .says))) (p .value ∙ sym (q .value)), refl)

@@ -1,8 +1,7 @@
 // The tables of places: position classes and the zigzag.
 ghost use mathlib.Core.Path.{_≡_};
-ghost use Prim.Native.Nat.{_<_};
 ghost use Rattle.lists.specs.Tab.{tab};
-ghost use Rattle.quantizer.specs.Tables.{columnOf, ofClass, classAtPlace, zigzagOf, stepOf};
+ghost use Rattle.quantizer.specs.Tables.{columnOf, ofClass, classAtPlace, zigzagTable, stepTable};
 use crate::Class;
 
 const ZIGZAG: [usize; 16] = [0, 1, 4, 8, 5, 2, 3, 6, 9, 12, 13, 10, 7, 11, 14, 15];
@@ -27,18 +26,16 @@ pub fn by_class(a: u32, b: u32, c: u32) -> [u32; 16]
     [a, c, a, c, c, b, c, b, a, c, a, c, c, b, c, b]
 }
 
-// The raster place that the zigzag visits at a step.
-pub fn zigzag(step: usize) -> usize
-    requires { ⌜ step < 16 ⌝ }
-    ensures { λ r. ⌜ (r ≡ zigzagOf step) × (r < 16) ⌝ }
+// The raster places in the order in which the zigzag visits them. By value: a reader's loop then has them for constants.
+pub fn zigzag() -> [usize; 16]
+    ensures { λ r. ⌜ r ≡ zigzagTable ⌝ }
 {
-    ZIGZAG[step]
+    ZIGZAG
 }
 
-// The step at which the zigzag visits a raster place.
-pub fn step(place: usize) -> usize
-    requires { ⌜ place < 16 ⌝ }
-    ensures { λ r. ⌜ (r ≡ stepOf place) × (r < 16) ⌝ }
+// The step at which the zigzag visits each raster place.
+pub fn steps() -> [usize; 16]
+    ensures { λ r. ⌜ r ≡ stepTable ⌝ }
 {
-    STEP[place]
+    STEP
 }

@@ -1,10 +1,13 @@
 -- What the tests come to, one law for each verdict, and when the entry points refuse.
 --     wide-each, wide-none                                the first wide number and a bound
 --     lent-short, lent-no-room, lent-rest, lent-fine      LENGTH and QUANTIZER
---     Accepted, accepted-legal, accepted-refused          what a caller learns from `accepted`
+--     accepted-passed, accepted-number, accepted-refused  what every caller learns from a function that tests for it
+--     Accepted, accepted-legal                            and from `accepted`
+--     residuals-refused, residuals-outside, residuals-fine     RESIDUAL, behind them
+--     AcceptedResiduals, residuals-legal                  what a caller learns from `residuals_accepted`
 --     range-far, range-fine, range-each                   RANGE
 --     levels-few, levels-refused, levels-wide, levels-fine     LEVEL, behind them
---     AcceptedLevels, levels-legal, levels-not-legal      what a caller learns from `levels_accepted`
+--     AcceptedLevels, levels-legal                        what a caller learns from `levels_accepted`
 --     levels-refuses-exactly-if, rebuild-refuses-exactly-if, rebuild-with-dc-refuses-exactly-if
 -- Assumes nothing.
 use mathlib.Core.Path.{_≡_, refl, sym, ap, _∙_}
@@ -14,9 +17,10 @@ use native.Mathlib.Omega.{arith}
 use borrow.Author.Tests.{eq-eqb, ne-eqb, eqb-true}
 use lib.IntN.{ℤ, pos, negsuc}
 use lib.ListN.{length}
-use Rattle.lists.specs.Chain.{scanTest, chain, pass, stop, ExactlyIf}
+use Rattle.lists.specs.Chain.{Test, scanTest, chain, pass, stop, ExactlyIf}
 use Rattle.lists.proofs.Chain.{chain-exactly-if, chain-refused, scan-none, scan-found, holds-new}
 use Rattle.whole.specs.Bounds.{Each}
+use Rattle.whole.specs.Range.{firstOutside}
 use Rattle.whole.proofs.Range.{at-end, none-each, each-none}
 use Rattle.refusal.specs.Number.{said}
 use Rattle.refusal.specs.declared.Answer.{Answer}
@@ -28,7 +32,7 @@ use Rattle.quantizer.specs.declared.Built.{Built}
 use Rattle.quantizer.specs.declared.Built.the-variants.{Legal, Refused}
 use Rattle.quantizer.specs.declared.Quantizer.{Quantizer}
 use Rattle.quantizer.proofs.Range.{number-legal, legal}
-use Rattle.residual.specs.Entry.{lentTests, Accepts, levelsTests, Levels, rebuildTests, Rebuilds, withDcTests, RebuildsWithDc, rangeTest, levelTests, AcceptsLevels, firstWide}
+use Rattle.residual.specs.Entry.{lentTests, Accepts, residualTests, levelsTests, Levels, rebuildTests, Rebuilds, withDcTests, RebuildsWithDc, rangeTest, levelTests, firstWide}
 use Rattle.residual.specs.Order.{inZigzag}
 use Rattle.residual.proofs.Order.{length-zigzag, zigzag-each}
 
@@ -39,6 +43,18 @@ wide-each l h = none-each (negsuc 32767) (pos 32767) l 32768 tt tt h
 -- and back, at 32767
 pub wide-none : (l : List ℤ) → Each 32767 l → firstWide l ≡ length l
 wide-none l h = each-none (negsuc 32767) (pos 32767) l 32767 tt tt h
+
+-- ---- what every caller learns from a function that tests for it
+
+module _ (tests : List (Test Refusal)) (qp : ℕ) {b : Built} (p : Accepts tests qp b) where
+  pub accepted-passed : {q : Quantizer} → b ≡ Legal q → chain tests ≡ pass
+  accepted-passed e = sym (says-same (p .says)) ∙ ap saidBuilt e
+
+  pub accepted-number : {q : Quantizer} → b ≡ Legal q → q .qp ≡ qp
+  accepted-number e = sym (ap qpOf e) ∙ holds-new 0 (accepted-passed e) (p .value)
+
+  pub accepted-refused : {r : Refusal} → b ≡ Refused r → chain tests ≡ stop r
+  accepted-refused e = sym (says-same (p .says)) ∙ ap saidBuilt e
 
 -- ---- LENGTH and QUANTIZER
 
@@ -64,20 +80,54 @@ module _ (n qp given room : ℕ) where
     pub legal : qp ≤ highest
     pub number : q .qp ≡ qp
 
-  pub accepted-legal : {b : Built} {q : Quantizer} → Accepts n qp given room b → b ≡ Legal q → Accepted q
+  pub accepted-legal : {b : Built} {q : Quantizer} → Accepts (lentTests n qp given room) qp b → b ≡ Legal q → Accepted q
   accepted-legal {b} {q} p e =
-      let v : chain (lentTests n qp given room) ≡ pass = sym (says-same (p .says)) ∙ ap saidBuilt e in
+      let v = accepted-passed (lentTests n qp given room) qp p e in
       let a = chain-exactly-if (lentTests n qp given room) .passes .0 v in
       record {
         passed = v;
         long = eqb-true given n (a .0);
         space = eqb-true room n (a .1 .0);
         legal = number-legal 0 qp (a .1 .1 .0);
-        number = sym (ap qpOf e) ∙ holds-new 0 v (p .value);
+        number = accepted-number (lentTests n qp given room) qp p e;
       }
 
-  pub accepted-refused : {b : Built} {r : Refusal} → Accepts n qp given room b → b ≡ Refused r → chain (lentTests n qp given room) ≡ stop r
-  accepted-refused {b} {r} p e = sym (says-same (p .says)) ∙ ap saidBuilt e
+-- ---- RESIDUAL
+
+module _ (n : ℕ) (low high : ℤ) (qp : ℕ) (numbers : List ℤ) (room : ℕ) where
+  pub residuals-refused : {r : Refusal} → chain (lentTests n qp (length numbers) room) ≡ stop r → chain (residualTests n low high qp numbers room) ≡ stop r
+  residuals-refused {r} e = chain-refused (lentTests n qp (length numbers) room) (scanTest n (firstOutside low high numbers) refusal.Residual ∷ []) r e
+
+  module _ (passed : chain (lentTests n qp (length numbers) room) ≡ pass) where
+    pub residuals-outside : firstOutside low high numbers < n → chain (residualTests n low high qp numbers room) ≡ stop (refusal.Residual (firstOutside low high numbers))
+    residuals-outside l = scan-found (lentTests n qp (length numbers) room) passed n (firstOutside low high numbers) refusal.Residual [] l
+
+    pub residuals-fine : length numbers ≡ n → n ≤ firstOutside low high numbers → chain (residualTests n low high qp numbers room) ≡ pass
+    residuals-fine k l = scan-none (lentTests n qp (length numbers) room) passed n (firstOutside low high numbers) refusal.Residual [] (at-end low high numbers n k l)
+
+  -- what a caller learns where all pass
+  pub record AcceptedResiduals (q : Quantizer) : Type 0 where
+    pub passed : chain (residualTests n low high qp numbers room) ≡ pass
+    pub long : length numbers ≡ n
+    pub space : room ≡ n
+    pub legal : qp ≤ highest
+    pub number : q .qp ≡ qp
+    pub none : length numbers ≤ firstOutside low high numbers
+
+  pub residuals-legal : {b : Built} {q : Quantizer} → Accepts (residualTests n low high qp numbers room) qp b → b ≡ Legal q → AcceptedResiduals q
+  residuals-legal {b} {q} p e =
+      let v = accepted-passed (residualTests n low high qp numbers room) qp p e in
+      let a = chain-exactly-if (residualTests n low high qp numbers room) .passes .0 v in
+      let k : length numbers ≡ n = eqb-true (length numbers) n (a .0) in
+      let none : firstOutside low high numbers ≡ n = eqb-true (firstOutside low high numbers) n (a .1 .1 .1 .0) in
+      record {
+        passed = v;
+        long = k;
+        space = eqb-true room n (a .1 .0);
+        legal = number-legal 0 qp (a .1 .1 .0);
+        number = accepted-number (residualTests n low high qp numbers room) qp p e;
+        none = omega arith;
+      }
 
 -- ---- levels
 
@@ -127,9 +177,9 @@ module _ (n from qp predicted : ℕ) (l : List ℤ) (room : ℕ) where
     pub number : q .qp ≡ qp
     pub small : Each 32768 l
 
-  pub levels-legal : {b : Built} {q : Quantizer} → AcceptsLevels n from qp predicted l room b → b ≡ Legal q → AcceptedLevels q
+  pub levels-legal : {b : Built} {q : Quantizer} → Accepts (levelTests n from qp predicted l room) qp b → b ≡ Legal q → AcceptedLevels q
   levels-legal {b} {q} p e =
-      let v : chain (levelTests n from qp predicted l room) ≡ pass = sym (says-same (p .says)) ∙ ap saidBuilt e in
+      let v = accepted-passed (levelTests n from qp predicted l room) qp p e in
       let a = chain-exactly-if (levelTests n from qp predicted l room) .passes .0 v in
       let w : firstWide l ≡ n = eqb-true (firstWide l) n (a .1 .1 .1 .1 .0) in
       let k : length l ≡ n = eqb-true (length l) n (a .0) in
@@ -139,12 +189,9 @@ module _ (n from qp predicted : ℕ) (l : List ℤ) (room : ℕ) where
         count = k;
         space = eqb-true room 16 (a .1 .1 .0);
         legal = number-legal 0 qp (a .1 .1 .1 .0);
-        number = sym (ap qpOf e) ∙ holds-new 0 v (p .value);
+        number = accepted-number (levelTests n from qp predicted l room) qp p e;
         small = wide-each l (omega arith);
       }
-
-  pub levels-not-legal : {b : Built} {r : Refusal} → AcceptsLevels n from qp predicted l room b → b ≡ Refused r → chain (levelTests n from qp predicted l room) ≡ stop r
-  levels-not-legal {b} {r} p e = sym (says-same (p .says)) ∙ ap saidBuilt e
 
 pub rebuild-refuses-exactly-if : (qp : ℕ) (p : List ℕ) (l : List ℤ) (before after : List ℕ) (r : Answer) → Rebuilds qp p l before r after → ExactlyIf (rebuildTests qp p l before) (said r)
 rebuild-refuses-exactly-if qp p l before after r e = says-exactly-if (rebuildTests qp p l before) (e .says)

@@ -15,10 +15,18 @@ use Rattle.residual.proofs.rebuild_with_dc.Kinds as rebuild-with-dc
 use Rattle.residual.proofs.rebuild_with_dc.Reads as rebuild-with-dc-reads
 use Rattle.residual.proofs.inner.accepted.Kinds as accepted
 use Rattle.residual.proofs.inner.accepted.Reads as accepted-reads
+use Rattle.residual.proofs.inner.residuals_accepted.Kinds as residuals-accepted
+use Rattle.residual.proofs.inner.residuals_accepted.Reads as residuals-accepted-reads
 use Rattle.residual.proofs.inner.scale.Kinds as scale
 use Rattle.residual.proofs.inner.scale.Reads as scale-reads
+use Rattle.residual.proofs.inner.scale_all.Kinds as scale-all
+use Rattle.residual.proofs.inner.scale_all.Reads as scale-all-reads
 use Rattle.residual.proofs.inner.third.Kinds as third
 use Rattle.residual.proofs.inner.third.Reads as third-reads
+use Rattle.residual.proofs.inner.half.Kinds as half
+use Rattle.residual.proofs.inner.half.Reads as half-reads
+use Rattle.residual.proofs.inner.beyond.Kinds as beyond
+use Rattle.residual.proofs.inner.beyond.Reads as beyond-reads
 use Rattle.residual.proofs.inner.level_all.Kinds as level-all
 use Rattle.residual.proofs.inner.level_all.Reads as level-all-reads
 use Rattle.residual.proofs.inner.quantized.Kinds as quantized
@@ -35,11 +43,23 @@ use Rattle.residual.proofs.inner.samples.Reads as samples-reads
 pub accepted-unique : Unique 0 accepted.ps accepted.r accepted-reads.Learnt (Unit {0}) (λ κs e. tt)
 accepted-unique κs a x y e f p q = (same-built x y (says-same (p .says) ∙ sym (says-same (q .says))) (p .value ∙ sym (q .value)), refl)
 
+pub residuals-accepted-unique : Unique 1 residuals-accepted.ps residuals-accepted.r residuals-accepted-reads.Learnt (Unit {0}) (λ κs e. tt)
+residuals-accepted-unique κs a x y e f p q = (same-built x y (says-same (p .says) ∙ sym (says-same (q .says))) (p .value ∙ sym (q .value)), refl)
+
 pub scale-unique : Unique 0 scale.ps scale.r scale-reads.Learnt (Unit {0}) (λ κs e. tt)
 scale-unique κs a x y e f p q = (p ∙ sym q, refl)
 
 pub third-unique : Unique 0 third.ps third.r third-reads.Learnt (Unit {0}) (λ κs e. tt)
 third-unique κs a x y e f p q = (p ∙ sym q, refl)
+
+pub half-unique : Unique 0 half.ps half.r half-reads.Learnt (Unit {0}) (λ κs e. tt)
+half-unique κs a x y e f p q = (p .0 ∙ sym (q .0), refl)
+
+pub beyond-unique : Unique 0 beyond.ps beyond.r beyond-reads.Learnt (Unit {0}) (λ κs e. tt)
+beyond-unique κs a x y e f p q = (p ∙ sym q, refl)
+
+pub scale-all-unique : Unique 2 scale-all.ps scale-all.r scale-all-reads.Learnt (List ℤ) (λ κs e. now (e .0))
+scale-all-unique κs a x y e f p q = (refl, p ∙ sym q)
 
 pub level-all-unique : Unique 2 level-all.ps level-all.r level-all-reads.Learnt (List ℤ) (λ κs e. now (e .0))
 level-all-unique κs a x y e f p q = (refl, p ∙ sym q)

@@ -13,7 +13,6 @@ use Rattle.refusal.specs.declared.Refusal.{Refusal}
 use Rattle.refusal.specs.declared.Refusal.the-variants as refusal
 use Rattle.whole.specs.Notation.{minus}
 use Rattle.whole.specs.Range.{firstOutside}
-use Rattle.transform.specs.Entry.{outside}
 use Rattle.quantizer.specs.Range.{quantizerTest, saidBuilt, qpOf}
 use Rattle.quantizer.specs.declared.Built.{Built}
 use Rattle.residual.specs.Levels.{levelsOf}
@@ -28,20 +27,25 @@ firstWide l = firstOutside (minus 32768) (pos 32767) l
 abbrev pub rangeTest : List ℤ → Test Refusal
 rangeTest d = scanTest 16 (firstWide (inZigzag d)) refusal.Range
 
+-- the answer of a function that tests for its callers: the quantizer, or the refusal
+pub record Accepts (tests : List (Test Refusal)) (qp : ℕ) (b : Built) : Type 0 where
+  pub says : Says (saidBuilt b) (chain tests)
+  pub value : qpOf b ≡ written (chain tests) qp 0
+
 -- ---- LENGTH of what is lent and of the room for what is written, n of each, then QUANTIZER
 
 abbrev pub lentTests : (n qp given room : ℕ) → List (Test Refusal)
 lentTests n qp given room = lengthTest n given ∷ lengthTest n room ∷ quantizerTest 0 qp ∷ []
 
--- the quantizer, or the refusal
-pub record Accepts (n qp given room : ℕ) (b : Built) : Type 0 where
-  pub says : Says (saidBuilt b) (chain (lentTests n qp given room))
-  pub value : qpOf b ≡ written (chain (lentTests n qp given room)) qp 0
+-- ---- then RESIDUAL: of n numbers the first index of one outside low..high
+
+abbrev pub residualTests : (n : ℕ) (low high : ℤ) (qp : ℕ) (numbers : List ℤ) (room : ℕ) → List (Test Refusal)
+residualTests n low high qp numbers room = lentTests n qp (length numbers) room ++ (scanTest n (firstOutside low high numbers) refusal.Residual ∷ [])
 
 -- ---- levels: LENGTH, QUANTIZER, RESIDUAL
 
 abbrev pub levelsTests : ℕ → List ℤ → List ℤ → List (Test Refusal)
-levelsTests qp residual out = lentTests 16 qp (length residual) (length out) ++ (scanTest 16 (outside residual) refusal.Residual ∷ [])
+levelsTests qp residual out = residualTests 16 (minus 255) (pos 255) qp residual (length out)
 
 pub record Levels (qp : ℕ) (residual out : List ℤ) (r : Answer) (after : List ℤ) : Type 0 where
   pub says : Says (said r) (chain (levelsTests qp residual out))
@@ -59,11 +63,6 @@ abbrev pub levelTests : (n from qp predicted : ℕ) (levels : List ℤ) (room : 
 levelTests n from qp predicted levels room =
     lengthTest n (length levels)
     ∷ (lentTests 16 qp predicted room ++ (scanTest n (firstWide levels) (λ k. refusal.Level (from + k)) ∷ []))
-
--- the quantizer, or the refusal
-pub record AcceptsLevels (n from qp predicted : ℕ) (levels : List ℤ) (room : ℕ) (b : Built) : Type 0 where
-  pub says : Says (saidBuilt b) (chain (levelTests n from qp predicted levels room))
-  pub value : qpOf b ≡ written (chain (levelTests n from qp predicted levels room)) qp 0
 
 -- ---- rebuild: LENGTH, QUANTIZER, LEVEL, RANGE
 

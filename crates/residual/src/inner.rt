@@ -1,19 +1,20 @@
 // What the entry points test first; levels and rescaled numbers of a block by value, for callers that have tested their numbers.
 ghost use mathlib.Core.Path.{_≡_};
-ghost use Prim.Native.Nat.{ℕ, _*_, _^_, _<_, _≤_};
+ghost use Prim.Native.Nat.{ℕ, _-_, _*_, _/_, _^_, _<_, _≤_};
 ghost use lib.IntN.{ℤ, pos, _+ℤ_, _*ℤ_};
 ghost use lib.ListN.{length, getD};
+ghost use lib.Signed.{shrZ};
 ghost use Rattle.lists.specs.Tab.{tab};
 ghost use Rattle.whole.specs.Clip.{clip};
 ghost use Rattle.whole.specs.Bounds.{Within, Each};
-ghost use Rattle.residual.specs.Entry.{Accepts};
+ghost use Rattle.residual.specs.Entry.{Accepts, lentTests, residualTests};
 ghost use Rattle.residual.specs.Quantize.{levelBy, fOf};
 ghost use Rattle.residual.specs.Levels.{quantized};
 ghost use Rattle.quantizer.specs.Range.{highest, periodOf, remainderOf};
 ghost use Rattle.quantizer.specs.Tables.{vOf};
-ghost use Rattle.residual.specs.Rescale.{mfAt, vAt, rescaled};
+ghost use Rattle.residual.specs.Rescale.{mfAt, vAt, Scalable, rescaled};
 ghost use Rattle.residual.specs.Rebuild.{added, rebuiltSamples};
-ghost use Rattle.residual.specs.Order.{inZigzag, inPlaces};
+ghost use Rattle.residual.specs.Order.{ordered, inZigzag, inPlaces};
 use quantizer::Built;
 use quantizer::Class;
 use quantizer::Quantizer;
@@ -21,7 +22,7 @@ use refusal::Refusal;
 
 // LENGTH of what is lent and of the room for what is written, then QUANTIZER.
 pub fn accepted(n: usize, qp: u8, given: usize, room: usize) -> Built
-    ensures { λ r. ⌜ Accepts n qp given room r ⌝ }
+    ensures { λ r. ⌜ Accepts (lentTests n qp given room) qp r ⌝ }
 {
     if given != n {
         return Built::Refused(Refusal::Length);
@@ -30,6 +31,29 @@ pub fn accepted(n: usize, qp: u8, given: usize, room: usize) -> Built
         return Built::Refused(Refusal::Length);
     }
     Quantizer::new(qp)
+}
+
+// The same, then RESIDUAL of the n numbers lent.
+pub fn residuals_accepted(
+    n: usize,
+    low: i32,
+    high: i32,
+    qp: u8,
+    numbers: &[i32],
+    room: usize,
+) -> Built
+    ensures { λ r. ⌜ Accepts (residualTests n low high qp (now (numbers .entry)) room) qp r ⌝ }
+{
+    match accepted(n, qp, numbers.len(), room) {
+        Built::Refused(refusal) => Built::Refused(refusal),
+        Built::Legal(quantizer) => {
+            let place = whole::inner::first_outside(numbers, low, high);
+            if place < n {
+                return Built::Refused(Refusal::Residual(place));
+            }
+            Built::Legal(quantizer)
+        }
+    }
 }
 
 // The multipliers of the sixteen places.
@@ -94,6 +118,22 @@ pub fn third(period: u8) -> u32
     divisor / 3
 }
 
+// What is added before a rescaled number is shifted down: half of the divisor.
+pub fn half(shift: u32) -> u32
+    requires { ⌜ shift ≤ 4 ⌝ }
+    ensures { λ r. ⌜ (r ≡ 2 ^ shift / 2) × (r ≤ 8) ⌝ }
+{
+    let divisor = 1u32 << shift;
+    divisor / 2
+}
+
+// How far a is beyond b: of a period, the power of two that is left for its scale, and to a period, the shift that is left.
+pub fn beyond(a: u8, b: u8) -> u8
+    ensures { λ r. ⌜ r ≡ a - b ⌝ }
+{
+    if a < b { 0 } else { a - b }
+}
+
 // The levels of sixteen residuals, in raster order.
 pub fn quantized(quantizer: Quantizer, residual: [i32; 16]) -> [i32; 16]
     requires { ⌜ (quantizer .qp ≤ highest) × (Each 255 residual) ⌝ }
@@ -106,16 +146,23 @@ pub fn quantized(quantizer: Quantizer, residual: [i32; 16]) -> [i32; 16]
     levels
 }
 
+// Sixteen numbers in the order of a table, which says from which place each is taken.
+fn in_order(l: &[i32], table: [usize; 16]) -> [i32; 16]
+    requires { ⌜ (length (now l) ≡ 16) × ((k : ℕ) → k < 16 → getD table k 0 < 16) ⌝ }
+    ensures { λ r. ⌜ r ≡ ordered 16 (λ k. getD table k 0) (now (l .entry)) ⌝ }
+{
+    let mut out = [0i32; 16];
+    for k in 0usize..16 {
+        out[k] = l[table[k]];
+    }
+    out
+}
+
 // Sixteen numbers from raster order into zigzag order.
 pub fn in_zigzag(l: [i32; 16]) -> [i32; 16]
     ensures { λ r. ⌜ r ≡ inZigzag l ⌝ }
 {
-    let mut out = [0i32; 16];
-    for step in 0usize..16 {
-        let place = quantizer::inner::zigzag(step);
-        out[step] = l[place];
-    }
-    out
+    in_order(&l, quantizer::inner::zigzag())
 }
 
 // And from zigzag order back into raster order, of lent numbers.
@@ -123,12 +170,7 @@ pub(crate) fn placed(l: &[i32]) -> [i32; 16]
     requires { ⌜ length (now l) ≡ 16 ⌝ }
     ensures { λ r. ⌜ r ≡ inPlaces (now (l .entry)) ⌝ }
 {
-    let mut out = [0i32; 16];
-    for place in 0usize..16 {
-        let step = quantizer::inner::step(place);
-        out[place] = l[step];
-    }
-    out
+    in_order(l, quantizer::inner::steps())
 }
 
 // The same by value.
@@ -138,22 +180,24 @@ pub fn in_places(l: [i32; 16]) -> [i32; 16]
     placed(&l)
 }
 
-fn scaled(level: i32, scale: u32) -> i32
-    requires { ⌜ (Within 32768 level) × (scale ≤ 7424) ⌝ }
-    ensures { λ r. ⌜ r ≡ level *ℤ pos scale ⌝ }
+// A number rescaled: times its scale, and what is added, shifted down.
+fn scaled(number: i32, scale: u32, round: u32, shift: u32) -> i32
+    requires { ⌜ (Scalable number scale) × (round ≤ 8) × (shift ≤ 4) ⌝ }
+    ensures { λ r. ⌜ r ≡ shrZ (number *ℤ pos scale +ℤ pos round) (2 ^ shift) ⌝ }
 {
-    level * (scale as i32)
+    (number * (scale as i32) + (round as i32)) >> shift
 }
 
-fn products(levels: [i32; 16], scale: [u32; 16]) -> [i32; 16]
-    requires { ⌜ (Each 32768 levels) × ((k : ℕ) → k < 16 → getD scale k 0 ≤ 7424) ⌝ }
-    ensures { λ r. ⌜ r ≡ tab 16 (λ place. getD levels place (pos 0) *ℤ pos (getD scale place 0)) ⌝ }
+// Each number of a slice rescaled, by the scale of its place.
+pub fn scale_all(numbers: &mut [i32], scale: &[u32], round: u32, shift: u32)
+    requires { ⌜ (length (now scale) ≡ length (now numbers)) × ((k : ℕ) → k < length (now numbers) → Scalable (getD (now numbers) k (pos 0)) (getD (now scale) k 0)) × (round ≤ 8) × (shift ≤ 4) ⌝ }
+    ensures { λ _. ⌜ now (numbers .exit) ≡ tab (length (now (numbers .entry))) (λ k. shrZ (getD (now (numbers .entry)) k (pos 0) *ℤ pos (getD (now (scale .entry)) k 0) +ℤ pos round) (2 ^ shift)) ⌝ }
 {
-    let mut out = [0i32; 16];
-    for place in 0usize..16 {
-        out[place] = scaled(levels[place], scale[place]);
+    let mut k = 0;
+    while k < numbers.len() {
+        numbers[k] = scaled(numbers[k], scale[k], round, shift);
+        k += 1;
     }
-    out
 }
 
 // Sixteen levels in raster order, rescaled.
@@ -161,7 +205,10 @@ pub fn rescaled(quantizer: Quantizer, levels: [i32; 16]) -> [i32; 16]
     requires { ⌜ (quantizer .qp ≤ highest) × (Each 32768 levels) ⌝ }
     ensures { λ r. ⌜ r ≡ rescaled (quantizer .qp) levels ⌝ }
 {
-    products(levels, scales(quantizer))
+    let mut numbers = levels;
+    let scale = scales(quantizer);
+    scale_all(&mut numbers, &scale, 0, 0);
+    numbers
 }
 
 fn sample(prediction: u8, residual: i32) -> u8

@@ -2,7 +2,7 @@
 ghost use mathlib.Core.Path.{_≡_};
 ghost use Prim.Native.Nat.{_≤_};
 ghost use lib.ListN.{length};
-ghost use Rattle.residual.specs.Entry.{Levels, Rebuilds, RebuildsWithDc, AcceptsLevels, Finishes};
+ghost use Rattle.residual.specs.Entry.{Accepts, levelTests, Levels, Rebuilds, RebuildsWithDc, Finishes};
 use quantizer::Built;
 use refusal::Answer;
 use refusal::Refusal;
@@ -13,13 +13,9 @@ pub mod inner;
 pub fn levels(qp: u8, residual: &[i32], out: &mut [i32]) -> Answer
     ensures { λ r. ⌜ Levels qp (now (residual .entry)) (now (out .entry)) r (now (out .exit)) ⌝ }
 {
-    match inner::accepted(16, qp, residual.len(), out.len()) {
+    match inner::residuals_accepted(16, -255, 255, qp, residual, out.len()) {
         Built::Refused(refusal) => Answer::Refused(refusal),
         Built::Legal(quantizer) => {
-            let place = whole::inner::first_outside(residual, -255, 255);
-            if place < 16 {
-                return Answer::Refused(Refusal::Residual(place));
-            }
             let mut x = [0i32; 16];
             whole::inner::copy(residual, &mut x);
             let ordered = inner::in_zigzag(inner::quantized(quantizer, x));
@@ -54,7 +50,7 @@ fn levels_accepted(
     room: usize,
 ) -> Built
     requires { ⌜ from ≤ 1 ⌝ }
-    ensures { λ r. ⌜ AcceptsLevels n from qp predicted (now (levels .entry)) room r ⌝ }
+    ensures { λ r. ⌜ Accepts (levelTests n from qp predicted (now (levels .entry)) room) qp r ⌝ }
 {
     if levels.len() != n {
         return Built::Refused(Refusal::Length);

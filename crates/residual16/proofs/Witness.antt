@@ -61,11 +61,11 @@ abbrev leaning : List ℤ
 leaning = pos 0 ∷ pos 10 ∷ replicate 254 (pos 0)
 
 pub value-by-place : (valueOf 28 leaning 2 ≡ pos 640) × (valueOf 28 leaning 4 ≡ negsuc 639)
-unfolding valueOf valuesIn tablePlace blockTable first tab inPlaces inZigzag scaledBy lumaValues lumaScaled hadamard
+unfolding valueOf valuesIn tablePlace blockTable first grid tab inPlaces inZigzag scaledBy lumaValues lumaScaled hadamard
 value-by-place = (refl, refl)
 
 pub dc-in-zigzag : (valueOf 28 (set (replicate 256 (pos 0)) 2 (pos 10)) 4 ≡ pos 640) × (valueOf 28 (set (replicate 256 (pos 0)) 2 (pos 10)) 8 ≡ negsuc 639)
-unfolding valueOf valuesIn tablePlace blockTable first tab inPlaces inZigzag scaledBy lumaValues lumaScaled hadamard
+unfolding valueOf valuesIn tablePlace blockTable first grid tab inPlaces inZigzag scaledBy lumaValues lumaScaled hadamard
 dc-in-zigzag = (refl, refl)
 
 -- document 01's measured piece, as a macroblock
@@ -91,7 +91,7 @@ abbrev far : List ℤ
 far = set (replicate 256 (pos 0)) 65 (pos 1200)
 
 pub dc-out : (dcFits 51 (set far 0 (pos 16383)) ≡ false) × (dcFits 51 far ≡ true)
-unfolding dcFits valuesIn lumaValues lumaScaled hadamard inPlaces inZigzag tab scaledBy first firstOutside inside
+unfolding dcFits valuesIn lumaValues lumaScaled hadamard inPlaces inZigzag grid tab scaledBy first firstOutside inside
 dc-out = (refl, refl)
 
 pub ac-out : (firstAc 51 (set far 0 (pos 16383)) ≡ 3) × (firstAc 51 measured ≡ 16)

@@ -21,10 +21,10 @@ fn ac(levels: &[i32], b: usize) -> [i32; 16]
     ensures { λ r. ⌜ r ≡ inPlaces (pos 0 ∷ acIn (now (levels .entry)) b) ⌝ }
 {
     let before = 15 + 15 * b;
+    let steps = quantizer::inner::steps();
     let mut out = [0i32; 16];
     for place in 1usize..16 {
-        let step = quantizer::inner::step(place);
-        out[place] = levels[before + step];
+        out[place] = levels[before + steps[place]];
     }
     out
 }

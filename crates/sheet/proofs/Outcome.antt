@@ -22,7 +22,7 @@ use Rattle.record.specs.Entry.{sizeHolds}
 use Rattle.record.proofs.Heads.{sized-of}
 use Rattle.picture.specs.Order.{Sound}
 use Rattle.picture.specs.Plane.{layoutOf, planeLength}
-use Rattle.sheet.specs.Code.{ofTotals, SumsOver, presentTotal, sheetFrom, Carried}
+use Rattle.sheet.specs.Code.{ofTotals, SumsOver, presentTotal, sheetFrom, Divides}
 use Rattle.sheet.specs.Entry.{firstFlag, sheetTests, writeTests, saidSheeted, givenIn, Sheets, Writes}
 use Rattle.sheet.specs.Errors.{presentCount}
 use Rattle.sheet.specs.Means.{Given, nothing, given, dividedOnce, sheetOf, givenOf, areaOf}
@@ -83,7 +83,7 @@ module _ (width height : ℕ) (original rebuilt map : List ℕ) where
           -- what count and sums make of the picture
           pub sheet-made : {k : ℕ} → k ≡ firstFlag map → k ≡ length map → {n : ℕ} → n ≡ presentCount (length map) map → (t : Totals)
               → SumsOver 4194304 (presentTotal (layoutOf width height) map) original rebuilt (ofTotals t)
-              → (r : Sheeted) → Carried n t r → Sheets width height original rebuilt map r
+              → (r : Sheeted) → Divides n t r → Sheets width height original rebuilt map r
           sheet-made e f {n} q t p r c =
               let l = layoutOf width height in
               let v : chain (sheetTests width height original rebuilt map) ≡ pass =

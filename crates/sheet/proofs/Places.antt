@@ -13,7 +13,7 @@ use native.Mathlib.Omega.{arith}
 use lib.IntN.{ℤ, pos, negsuc, natAbs, _-ℤ_, _*ℤ_}
 use lib.ListN.{getD}
 use Rattle.lists.specs.First.{first}
-use Rattle.lists.specs.Total.{distance}
+use Rattle.lists.specs.Total.{gap}
 use Rattle.lists.proofs.Total.{total-low}
 use Rattle.whole.specs.Sum.{sum}
 use Rattle.whole.proofs.Laws.{Diff, diff-self, diff-minus}
@@ -81,12 +81,12 @@ present-minus l map f g =
 
 -- ---- the rules at a place
 
-by-diff : (z : ℤ) {p n : ℕ} → Diff z p n → natAbs z ≡ distance n p
+by-diff : (z : ℤ) {p n : ℕ} → Diff z p n → natAbs z ≡ gap n p
 by-diff (pos a) d = omega arith
 by-diff (negsuc a) d = omega arith
 
-gap : (a b : ℕ) → natAbs (pos a -ℤ pos b) ≡ distance b a
-gap a b =
+gap-is : (a b : ℕ) → natAbs (pos a -ℤ pos b) ≡ gap b a
+gap-is a b =
     let d : Diff (pos a -ℤ pos b) a b = record { eq = omega (arith, diff-minus (diff-self (pos a)) (diff-self (pos b)) .eq) } in
     by-diff (pos a -ℤ pos b) d
 
@@ -96,7 +96,7 @@ square (negsuc a) = refl
 
 module _ (original rebuilt : List ℕ) where
   size-is : (p : ℕ) → natAbs (signedError original rebuilt p) ≡ absoluteAt original rebuilt p
-  size-is p = gap (getD rebuilt p 0) (getD original p 0)
+  size-is p = gap-is (getD rebuilt p 0) (getD original p 0)
 
   squared-is : (p : ℕ) → squaredError original rebuilt p ≡ pos (squaredAt original rebuilt p)
   squared-is p = square (signedError original rebuilt p) ∙ ap (λ (n : ℕ). pos (n * n)) (size-is p)

@@ -7,7 +7,7 @@ use lib.Dec.{eqb}
 use lib.IntN.{pos, _-ℤ_}
 use lib.ListN.{length, getD}
 use Rattle.lists.specs.Chain.{pass}
-use Rattle.lists.specs.Total.{total, distance}
+use Rattle.lists.specs.Total.{total, gap}
 use Rattle.picture.specs.declared.Layout.{Layout}
 use Rattle.picture.specs.Order.{blockColumn, blockRow}
 use Rattle.picture.specs.Plane.{stride, planeLength}
@@ -46,7 +46,7 @@ addFour x y = record {
 
 -- the four rules that are summed, at a place of the planes
 abbrev pub absoluteAt : (original rebuilt : List ℕ) → ℕ → ℕ
-absoluteAt original rebuilt place = distance (getD original place 0) (getD rebuilt place 0)
+absoluteAt original rebuilt place = gap (getD original place 0) (getD rebuilt place 0)
 
 abbrev pub squaredAt : (original rebuilt : List ℕ) → ℕ → ℕ
 squaredAt original rebuilt place = absoluteAt original rebuilt place * absoluteAt original rebuilt place
@@ -121,6 +121,7 @@ sheetFrom present t = record {
   signed = dividedOnce (pos (t .rebuilt) -ℤ pos (t .original)) (256 * present);
 }
 
-pub record Carried (present : ℕ) (t : Totals) (r : Sheeted) : Type 0 where
+-- the answer from so many macroblocks and their totals: the sheet, and of none nothing
+pub record Divides (present : ℕ) (t : Totals) (r : Sheeted) : Type 0 where
   pub said : saidSheeted r ≡ pass
   pub given : givenIn r ≡ cond (eqb present 0) nothing (given (sheetFrom present t))

@@ -2,7 +2,7 @@
 ghost use mathlib.Core.Path.{_≡_};
 ghost use Prim.Native.Nat.{_≤_};
 ghost use lib.IntN.{pos, _-ℤ_};
-ghost use Rattle.sheet.specs.Code.{ofTotals, OfAtMost, longest, Carried};
+ghost use Rattle.sheet.specs.Code.{ofTotals, OfAtMost, longest, Divides};
 ghost use Rattle.sheet.specs.Means.{dividedOnce};
 use crate::Sheet;
 use crate::Sheeted;
@@ -26,7 +26,7 @@ fn mean_signed(rebuilt: u64, original: u64, count: u64) -> f64
 // The sheet of so many macroblocks; of none there is no sheet.
 pub(crate) fn divided(present: u64, totals: Totals) -> Sheeted
     requires { ⌜ (present ≤ 16384) × (OfAtMost 4194304 (ofTotals totals)) ⌝ }
-    ensures { λ r. ⌜ Carried present totals r ⌝ }
+    ensures { λ r. ⌜ Divides present totals r ⌝ }
 {
     if present == 0 {
         return Sheeted::Nothing;

@@ -21,7 +21,7 @@ ghost use Rattle.sheet.specs.Code.{
   Lies,
 };
 use crate::map::is_present;
-use whole::inner::distance;
+use whole::inner::gap;
 
 // Sums over some samples: of absolute and squared errors, of rebuilt and of original samples. Those of a macroblock fit 32 bits.
 struct Sums {
@@ -50,7 +50,7 @@ fn none() -> Sums
     }
 }
 
-fn added(a: Sums, b: Sums) -> Sums
+fn add_sums(a: Sums, b: Sums) -> Sums
     requires { ⌜ (OfAtMost 256 (ofSums a)) × (OfAtMost 256 (ofSums b)) ⌝ }
     ensures { λ r. ⌜ ofSums r ≡ addFour (ofSums a) (ofSums b) ⌝ }
 {
@@ -62,7 +62,7 @@ fn added(a: Sums, b: Sums) -> Sums
     }
 }
 
-fn added_wide(a: Totals, b: Sums) -> Totals
+fn add_to_totals(a: Totals, b: Sums) -> Totals
     requires { ⌜ (OfAtMost 4194304 (ofTotals a)) × (OfAtMost 256 (ofSums b)) ⌝ }
     ensures { λ r. ⌜ ofTotals r ≡ addFour (ofTotals a) (ofSums b) ⌝ }
 {
@@ -93,7 +93,7 @@ fn one(original: &[u8], rebuilt: &[u8], at: usize) -> Sums
 {
     let own = original[at];
     let back = rebuilt[at];
-    let error = distance(own, back);
+    let error = gap(own, back);
     Sums {
         absolute: wide(error),
         squared: squared(error),
@@ -109,7 +109,7 @@ fn row(original: &[u8], rebuilt: &[u8], at: usize) -> Sums
 {
     let mut sums = none();
     for x in 0..16 {
-        sums = added(sums, one(original, rebuilt, at + x));
+        sums = add_sums(sums, one(original, rebuilt, at + x));
     }
     sums
 }
@@ -121,7 +121,7 @@ fn macroblock(original: &[u8], rebuilt: &[u8], at: usize, stride: usize) -> Sums
 {
     let mut sums = none();
     for y in 0..16 {
-        sums = added(sums, row(original, rebuilt, at + y * stride));
+        sums = add_sums(sums, row(original, rebuilt, at + y * stride));
     }
     sums
 }
@@ -162,7 +162,7 @@ pub(crate) fn over_picture(
     };
     let count = width * height;
     for m in 0..count {
-        totals = added_wide(totals, part(width, height, m, map[m], original, rebuilt));
+        totals = add_to_totals(totals, part(width, height, m, map[m], original, rebuilt));
     }
     totals
 }

@@ -1,6 +1,6 @@
 -- A plane as the code computes it.
 --     slope-is                  H or V is the difference of two sums of natural numbers
---     step-small                how far a plane can rise
+--     rise-small                how far a plane can rise
 --     slanted-by                a sample of a plane, by its row and its column
 -- Assumes nothing.
 use mathlib.Core.Path.{_≡_, refl, ap, _∙_}
@@ -22,7 +22,7 @@ use Rattle.whole.proofs.Ring.{ring, var, con, _⊕_, _⊖_, _⊗_}
 use Rattle.intra4.specs.Rules.{rowOf}
 use Rattle.intra4.proofs.Places.{back}
 use Rattle.sides.specs.Plane.{slope, slanted}
-use Rattle.sides.specs.Code.{rising, falling, stepOf, shownOf}
+use Rattle.sides.specs.Code.{rising, falling, riseOf, shownOf}
 
 difference : (h : ℕ) (w f g : ℕ → ℕ) → sum h (λ i. pos (w i) *ℤ (pos (f i) -ℤ pos (g i))) ≡ pos (total h (λ i. w i * f i)) -ℤ pos (total h (λ i. w i * g i))
 unfolding total
@@ -43,9 +43,9 @@ slope-is n corner l =
     (λ i h. ap (λ (v : ℕ). pos (i + 1) *ℤ (pos (getD l (half + i) 0) -ℤ pos v)) (back (corner ∷ l) half 2 i (half - 1 - i) (omega arith)))
     ∙ difference half (λ i. i + 1) (λ i. getD l (half + i) 0) (λ i. getD (corner ∷ l) (half - 1 - i) 0)
 
-pub step-small : (n : ℕ) (b : ℤ) (k : ℕ) → n ≤ 16 → Within 600000 b → k < 16 → Within 20000000 (stepOf n b k)
-unfolding stepOf
-step-small n b k h w l =
+pub rise-small : (n : ℕ) (b : ℤ) (k : ℕ) → n ≤ 16 → Within 600000 b → k < 16 → Within 20000000 (riseOf n b k)
+unfolding riseOf
+rise-small n b k h w l =
     let Bs : List ℕ = 600000 ∷ 16 ∷ 8 ∷ [] in
     let ρ : List ℤ = b ∷ pos k ∷ pos (n / 2 - 1) ∷ [] in
     within-less
@@ -53,9 +53,9 @@ step-small n b k h w l =
     tt
 
 -- the standard's sum in another order
-pub slanted-by : (n : ℕ) (a b c : ℤ) (x y : ℕ) {row step : ℤ} {v : ℕ} → row ≡ a +ℤ stepOf n c y +ℤ pos 16 → step ≡ stepOf n b x → v ≡ shownOf row step
+pub slanted-by : (n : ℕ) (a b c : ℤ) (x y : ℕ) {row rise : ℤ} {v : ℕ} → row ≡ a +ℤ riseOf n c y +ℤ pos 16 → rise ≡ riseOf n b x → v ≡ shownOf row rise
     → v ≡ slanted n a b c x y
-unfolding slanted stepOf shownOf
+unfolding slanted riseOf shownOf
 slanted-by n a b c x y p q e =
     e
     ∙ (λ i. shownOf (p i) (q i))

@@ -19,11 +19,11 @@ unfoldable pub falling : ℕ → ℕ → List ℕ → ℕ
 falling n corner l = total (n / 2) (λ i. (i + 1) * getD (corner ∷ l) (n / 2 - 1 - i) 0)
 
 -- how far a plane rises from the middle to column or row k, and a sample of its row and its column
-unfoldable pub stepOf : ℕ → ℤ → ℕ → ℤ
-stepOf n b k = b *ℤ (pos k -ℤ pos (n / 2 - 1))
+unfoldable pub riseOf : ℕ → ℤ → ℕ → ℤ
+riseOf n b k = b *ℤ (pos k -ℤ pos (n / 2 - 1))
 
 unfoldable pub shownOf : ℤ → ℤ → ℕ
-shownOf row step = clip 255 ((row +ℤ step) >> 5)
+shownOf row rise = clip 255 ((row +ℤ rise) >> 5)
 
 -- a mode's samples over the sides and the corner, whether or not they are present
 unfoldable pub filled : (above left corner : List ℕ) → ℕ → ℕ → List ℕ

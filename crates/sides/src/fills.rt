@@ -53,11 +53,11 @@ fn put_slanted(n: usize, a: i32, b: i32, c: i32, out: &mut [u8])
     requires { ⌜ (2 ≤ n) × (n ≤ 16) × (Within 8160 a) × (Within 600000 b) × (Within 600000 c) × (length (now out) ≡ n * n) ⌝ }
     ensures { λ r. ⌜ now (out .exit) ≡ grid n (standard.slanted n a b c) ⌝ }
 {
-    let steps = rules::steps(n, b);
+    let rises = rules::rises(n, b);
     for y in 0..n {
         let row = rules::row_start(n, a, c, y);
         for x in 0..n {
-            out[n * y + x] = rules::shown(row, steps[x]);
+            out[n * y + x] = rules::shown(row, rises[x]);
         }
     }
 }

@@ -10,7 +10,7 @@ ghost use Rattle.whole.specs.Bounds.{Within, Each};
 ghost use Rattle.intra4.specs.Samples.{sideIf};
 ghost use Rattle.intra4.specs.Rules as paper;
 ghost use Rattle.sides.specs.Plane as standard;
-ghost use Rattle.sides.specs.Code.{rising, falling, stepOf, shownOf};
+ghost use Rattle.sides.specs.Code.{rising, falling, riseOf, shownOf};
 
 // A sample times its weight.
 fn weighted(weight: usize, sample: u8) -> u32
@@ -74,38 +74,38 @@ pub(crate) fn start(above: u8, left: u8) -> i32
 }
 
 // How far a plane rises from the middle to place k.
-fn step(n: usize, b: i32, k: usize) -> i32
+fn rise(n: usize, b: i32, k: usize) -> i32
     requires { ⌜ (2 ≤ n) × (n ≤ 16) × (Within 600000 b) × (k < 16) ⌝ }
-    ensures { λ r. ⌜ (r ≡ stepOf n b k) × Within 20000000 r ⌝ }
+    ensures { λ r. ⌜ (r ≡ riseOf n b k) × Within 20000000 r ⌝ }
 {
     b * (k as i32 - (n / 2 - 1) as i32)
 }
 
 // The same for sixteen columns.
-pub(crate) fn steps(n: usize, b: i32) -> [i32; 16]
+pub(crate) fn rises(n: usize, b: i32) -> [i32; 16]
     requires { ⌜ (2 ≤ n) × (n ≤ 16) × (Within 600000 b) ⌝ }
-    ensures { λ r. ⌜ (r ≡ tab 16 (stepOf n b)) × Each 20000000 r ⌝ }
+    ensures { λ r. ⌜ (r ≡ tab 16 (riseOf n b)) × Each 20000000 r ⌝ }
 {
-    let mut steps = [0i32; 16];
+    let mut rises = [0i32; 16];
     for x in 0usize..16 {
-        steps[x] = step(n, b, x);
+        rises[x] = rise(n, b, x);
     }
-    steps
+    rises
 }
 
 // What a plane's row y has before its columns rise.
 pub(crate) fn row_start(n: usize, a: i32, c: i32, y: usize) -> i32
     requires { ⌜ (2 ≤ n) × (n ≤ 16) × (Within 8160 a) × (Within 600000 c) × (y < n) ⌝ }
-    ensures { λ r. ⌜ (r ≡ a +ℤ stepOf n c y +ℤ pos 16) × Within 30000000 r ⌝ }
+    ensures { λ r. ⌜ (r ≡ a +ℤ riseOf n c y +ℤ pos 16) × Within 30000000 r ⌝ }
 {
-    a + step(n, c, y) + 16
+    a + rise(n, c, y) + 16
 }
 
-pub(crate) fn shown(row: i32, step: i32) -> u8
-    requires { ⌜ (Within 30000000 row) × (Within 20000000 step) ⌝ }
-    ensures { λ r. ⌜ r ≡ shownOf row step ⌝ }
+pub(crate) fn shown(row: i32, rise: i32) -> u8
+    requires { ⌜ (Within 30000000 row) × (Within 20000000 rise) ⌝ }
+    ensures { λ r. ⌜ r ≡ shownOf row rise ⌝ }
 {
-    whole::inner::clip((row + step) >> 5, 255)
+    whole::inner::clip((row + rise) >> 5, 255)
 }
 
 // A byte as a number that sums may grow on.

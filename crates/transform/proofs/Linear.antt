@@ -13,7 +13,7 @@ use native.Mathlib.Omega.{arith}
 use lib.Dec.{T}
 use lib.IntN.{ℤ, pos, negℤ, _+ℤ_, _-ℤ_, _*ℤ_}
 use lib.ListN.{length, getD}
-use Rattle.lists.specs.Tab.{tab}
+use Rattle.lists.specs.Tab.{tab, grid}
 use Rattle.lists.proofs.Tab.{getD-tab}
 use Rattle.whole.specs.Bounds.{Within}
 use Rattle.whole.proofs.Lists.{each-tab}
@@ -42,7 +42,7 @@ module _ (n : ℕ) (H : Matrix) where
   place-below i j h l = let m = mul-le-mul-left n h in omega (arith, m)
 
   pub hadamard-at : (w : List ℤ) (k : ℕ) → k < n * n → getD (hadamard n H w) k (pos 0) ≡ product n H (product n (raster n w) H) (k / n) (k % n)
-  unfolding hadamard
+  unfolding hadamard grid
   hadamard-at w k h = getD-tab (n * n) _ k (pos 0) h
 
   pub hadamard-linear : (a b : ℤ) (x y z : List ℤ) → ((k : ℕ) → k < n * n → getD z k (pos 0) ≡ a *ℤ getD x k (pos 0) +ℤ b *ℤ getD y k (pos 0))

@@ -2,7 +2,7 @@
 use mathlib.Core.Path.{_≡_, refl}
 use mathlib.Core.List.{List, [], _∷_}
 use lib.IntN.{ℤ, pos, negsuc}
-use Rattle.lists.specs.Tab.{tab}
+use Rattle.lists.specs.Tab.{tab, grid}
 use Rattle.transform.specs.Forward.{forward}
 use Rattle.transform.specs.Inverse.{inverse}
 
@@ -39,5 +39,5 @@ rebuilt =
     ∷ pos 18 ∷ pos 5 ∷ pos 14 ∷ pos 7 ∷ []
 
 pub richardson : (forward residual ≡ coefficients) × (inverse rescaled ≡ rebuilt)
-unfolding forward inverse tab
+unfolding forward inverse grid tab
 richardson = (refl, refl)

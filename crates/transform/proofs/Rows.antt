@@ -14,7 +14,7 @@ use lib.Dec.{T}
 use lib.IntN.{ℤ, pos}
 use lib.ListN.{length, getD}
 use mir.Syntax.{w32}
-use Rattle.lists.specs.Tab.{tab}
+use Rattle.lists.specs.Tab.{tab, grid}
 use Rattle.lists.proofs.Tab.{getD-tab, tab-of}
 use Rattle.whole.specs.Bounds.{Each}
 use Rattle.whole.proofs.Ring.{Expression, var, con, _⊕_, _⊗_, values, normals, rings}
@@ -70,7 +70,7 @@ abbrev pub squareExpressions : Matrix → List Expression
 squareExpressions H = squareExpression H 0 0 ∷ squareExpression H 0 1 ∷ squareExpression H 1 0 ∷ squareExpression H 1 1 ∷ []
 
 pub square-through : (H : Matrix) (code : List Expression) (w : List ℤ) → normals code ≡ normals (squareExpressions H) → values w code ≡ hadamard 2 H w
-unfolding hadamard tab
+unfolding hadamard grid tab
 square-through H code w e = rings w code (squareExpressions H) e
 
 -- ---- four numbers

@@ -12,7 +12,7 @@ use Prim.Native.Nat.{ℕ, _*_, _<_}
 use lib.Dec.{T, leb}
 use lib.IntN.{ℤ, pos}
 use lib.ListN.{length}
-use Rattle.lists.specs.Tab.{tab, turned}
+use Rattle.lists.specs.Tab.{tab, grid, turned}
 use Rattle.lists.proofs.Tab.{length-tab, getD-tab, tab-same}
 use Rattle.whole.specs.Bounds.{Each}
 use Rattle.whole.proofs.Lists.{each-less}
@@ -84,7 +84,7 @@ module _ (n : ℕ) (H : Matrix) (symmetric : (i j : ℕ) → i < n → j < n →
 
 -- the inverse's last step
 pub rounded-inverse : (d : List ℤ) {r l : List ℤ} → r ≡ tab 16 (λ place. rounded (line l place)) → l ≡ entries 4 (eachColumn back (eachRow back (raster 4 d))) → r ≡ inverse d
-unfolding inverse
+unfolding inverse grid
 rounded-inverse d {r} {l} e g =
     e
     ∙ tab-same 16 _ _ (λ k h. ap rounded (ap (λ (z : List ℤ). line z k) g ∙ getD-tab 16 _ k (pos 0) h))
@@ -92,9 +92,9 @@ rounded-inverse d {r} {l} e g =
 -- ---- lengths
 
 pub length-forward : (x : List ℤ) → length (forward x) ≡ 16
-unfolding forward
+unfolding forward grid
 length-forward x = length-tab 16 _
 
 pub length-hadamard : (n : ℕ) (H : Matrix) (w : List ℤ) → length (hadamard n H w) ≡ n * n
-unfolding hadamard
+unfolding hadamard grid
 length-hadamard n H w = length-tab (n * n) _

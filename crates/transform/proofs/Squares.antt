@@ -30,17 +30,17 @@ module _ (n : ℕ) where
   -- ---- a matrix and its list
 
   pub entries-at : (A : Matrix) (i j : ℕ) → i < n → j < n → raster n (entries n A) i j ≡ A i j
-  unfolding grid
-  entries-at A i j h l = getD-grid n (λ column row. A row column) j i (pos 0) l h
+  entries-at A i j h l = getD-grid n (transposed A) j i (pos 0) l h
 
   pub length-entries : (A : Matrix) → length (entries n A) ≡ n * n
+  unfolding grid
   length-entries A = length-tab (n * n) _
 
   pub entries-same : (A B : Matrix) → ((i j : ℕ) → i < n → j < n → A i j ≡ B i j) → entries n A ≡ entries n B
-  unfolding grid
-  entries-same A B h = grid-same n (λ column row. A row column) (λ column row. B row column) (λ column row a b. h row column b a)
+  entries-same A B h = grid-same n (transposed A) (transposed B) (λ column row a b. h row column b a)
 
   pub entries-of : (A : Matrix) (l : List ℤ) → length l ≡ n * n → ((i j : ℕ) → i < n → j < n → A i j ≡ raster n l i j) → entries n A ≡ l
+  unfolding grid
   entries-of A l e h =
       tab-of (n * n) _ l (pos 0) e
       (λ k lt. h (k / n) (k % n) (row-below n k lt) (column-below n k lt) ∙ ap (λ (m : ℕ). getD l m (pos 0)) (div-add-mod k n))
@@ -48,6 +48,7 @@ module _ (n : ℕ) where
   -- ---- bounds
 
   pub entries-each : (B : ℕ) (A : Matrix) → ((i j : ℕ) → i < n → j < n → Within B (A i j)) → Each B (entries n A)
+  unfolding grid
   entries-each B A h =
       each-from B (entries n A)
       (λ k l.

@@ -8,7 +8,7 @@ use lib.IntN.{ℤ, pos, negsuc, _+ℤ_, _-ℤ_}
 use lib.ListN.{getD, replicate}
 use lib.Signed.{quotZ}
 use Rattle.lists.specs.Chain.{chain, stop}
-use Rattle.lists.specs.Tab.{tab}
+use Rattle.lists.specs.Tab.{tab, grid}
 use Rattle.refusal.specs.declared.Refusal.the-variants.{Length}
 use Rattle.transform.specs.Entry.{forwardTests}
 use Rattle.transform.specs.Inverse.{back, rounded, inverse}
@@ -36,7 +36,7 @@ halvedTowardZero d = entries 4 (λ row column. rounded (eachColumn towardZero (e
 pub halvings-fall : (getD (inverse one) 6 (pos 0) ≡ negsuc 0)
     × (getD (columnsFirst one) 6 (pos 0) ≡ pos 0)
     × (getD (halvedTowardZero one) 6 (pos 0) ≡ pos 0)
-unfolding inverse tab
+unfolding inverse grid tab
 halvings-fall = (refl, refl, refl)
 
 pub length-comes-first : chain (forwardTests (replicate 17 (pos 256)) (replicate 16 (pos 0))) ≡ stop Length

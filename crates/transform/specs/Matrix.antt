@@ -1,9 +1,9 @@
 -- Matrices of whole numbers, by their entries, over the size (01, "Transform, quantizer, rescaling"). Assumes nothing.
 use mathlib.Core.List.{List}
-use Prim.Native.Nat.{ℕ, _+_, _*_, _/_, _%_}
+use Prim.Native.Nat.{ℕ, _+_, _*_}
 use lib.IntN.{ℤ, pos, _*ℤ_}
 use lib.ListN.{getD}
-use Rattle.lists.specs.Tab.{tab}
+use Rattle.lists.specs.Tab.{grid}
 use Rattle.whole.specs.Sum.{sum}
 
 -- the numbers of a row or a column, by their place
@@ -32,6 +32,6 @@ eachColumn f A = λ row column. f (transposed A column) row
 abbrev pub raster : ℕ → List ℤ → Matrix
 raster n l = λ row column. getD l (n * row + column) (pos 0)
 
--- and the list of a matrix of n rows and n columns
+-- and the list of a matrix of n rows and n columns: its entries in raster order, for which `grid` takes the column first
 abbrev pub entries : ℕ → Matrix → List ℤ
-entries n A = tab (n * n) (λ place. A (place / n) (place % n))
+entries n A = grid n (transposed A)

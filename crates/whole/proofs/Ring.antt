@@ -71,20 +71,20 @@ abbrev pub withTerm : ℤ → List ℕ → Polynomial → Polynomial
 withTerm c m none = keep c m none
 withTerm c m (term d n p) = termPlaced (compared m n) c m d n p (withTerm c m p)
 
-abbrev pub added : Polynomial → Polynomial → Polynomial
-added none q = q
-added (term c m p) q = withTerm c m (added p q)
+abbrev pub withTerms : Polynomial → Polynomial → Polynomial
+withTerms none q = q
+withTerms (term c m p) q = withTerm c m (withTerms p q)
 
 -- a variable i beside the first one, j, of a list, m being the rest and q the rest with i put in
-abbrev pub placed : Ordering → ℕ → ℕ → List ℕ → List ℕ → List ℕ
-placed Ordering·lt i j m q = i ∷ j ∷ m
-placed Ordering·eq i j m q = i ∷ j ∷ m
-placed Ordering·gt i j m q = j ∷ q
+abbrev pub variablePlaced : Ordering → ℕ → ℕ → List ℕ → List ℕ → List ℕ
+variablePlaced Ordering·lt i j m q = i ∷ j ∷ m
+variablePlaced Ordering·eq i j m q = i ∷ j ∷ m
+variablePlaced Ordering·gt i j m q = j ∷ q
 
 -- with one variable more
 abbrev pub withVariable : ℕ → List ℕ → List ℕ
 withVariable i [] = i ∷ []
-withVariable i (j ∷ m) = placed (compare i j) i j m (withVariable i m)
+withVariable i (j ∷ m) = variablePlaced (compare i j) i j m (withVariable i m)
 
 abbrev pub merge : List ℕ → List ℕ → List ℕ
 merge [] n = n
@@ -96,12 +96,12 @@ timesTerm c m (term d n p) = withTerm (c *ℤ d) (merge m n) (timesTerm c m p)
 
 abbrev pub multiplied : Polynomial → Polynomial → Polynomial
 multiplied none q = none
-multiplied (term c m p) q = added (timesTerm c m q) (multiplied p q)
+multiplied (term c m p) q = withTerms (timesTerm c m q) (multiplied p q)
 
 abbrev pub normal : Expression → Polynomial
 normal (var i) = term (pos 1) (i ∷ []) none
 normal (con c) = keep c [] none
-normal (a ⊕ b) = added (normal a) (normal b)
+normal (a ⊕ b) = withTerms (normal a) (normal b)
 normal (a ⊗ b) = multiplied (normal a) (normal b)
 normal (neg a) = timesTerm (negsuc 0) [] (normal a)
 
@@ -152,27 +152,27 @@ module _ (ρ : List ℤ) where
   withTerm-value c m none = keep-value c m none
   withTerm-value c m (term d n p) = termPlaced-value (compared m n) c m d n p (withTerm c m p) (compared-eq m n) (withTerm-value c m p)
 
-  added-value : (p q : Polynomial) → sumOf (added p q) ≡ sumOf p +ℤ sumOf q
+  withTerms-value : (p q : Polynomial) → sumOf (withTerms p q) ≡ sumOf p +ℤ sumOf q
   unfolding sumOf
-  added-value none q = sym (+ℤ-idl (sumOf q))
-  added-value (term c m p) q =
-      withTerm-value c m (added p q) ∙ ap (λ (t : ℤ). c *ℤ productOf m +ℤ t) (added-value p q) ∙ sym (+ℤ-assoc (c *ℤ productOf m) (sumOf p) (sumOf q))
+  withTerms-value none q = sym (+ℤ-idl (sumOf q))
+  withTerms-value (term c m p) q =
+      withTerm-value c m (withTerms p q) ∙ ap (λ (t : ℤ). c *ℤ productOf m +ℤ t) (withTerms-value p q) ∙ sym (+ℤ-assoc (c *ℤ productOf m) (sumOf p) (sumOf q))
 
   swap-mul : (a b c : ℤ) → a *ℤ (b *ℤ c) ≡ b *ℤ (a *ℤ c)
   swap-mul a b c = sym (*ℤ-assoc a b c) ∙ ap (λ (t : ℤ). t *ℤ c) (*ℤ-comm a b) ∙ *ℤ-assoc b a c
 
-  placed-value : (o : Ordering) (i j : ℕ) (m q : List ℕ) → productOf q ≡ getD ρ i (pos 0) *ℤ productOf m
-      → productOf (placed o i j m q) ≡ getD ρ i (pos 0) *ℤ (getD ρ j (pos 0) *ℤ productOf m)
+  variablePlaced-value : (o : Ordering) (i j : ℕ) (m q : List ℕ) → productOf q ≡ getD ρ i (pos 0) *ℤ productOf m
+      → productOf (variablePlaced o i j m q) ≡ getD ρ i (pos 0) *ℤ (getD ρ j (pos 0) *ℤ productOf m)
   unfolding productOf
-  placed-value Ordering·lt i j m q h = refl
-  placed-value Ordering·eq i j m q h = refl
-  placed-value Ordering·gt i j m q h =
+  variablePlaced-value Ordering·lt i j m q h = refl
+  variablePlaced-value Ordering·eq i j m q h = refl
+  variablePlaced-value Ordering·gt i j m q h =
       ap (λ (t : ℤ). getD ρ j (pos 0) *ℤ t) h ∙ swap-mul (getD ρ j (pos 0)) (getD ρ i (pos 0)) (productOf m)
 
   withVariable-value : (i : ℕ) (m : List ℕ) → productOf (withVariable i m) ≡ getD ρ i (pos 0) *ℤ productOf m
   unfolding productOf
   withVariable-value i [] = refl
-  withVariable-value i (j ∷ m) = placed-value (compare i j) i j m (withVariable i m) (withVariable-value i m)
+  withVariable-value i (j ∷ m) = variablePlaced-value (compare i j) i j m (withVariable i m) (withVariable-value i m)
 
   merge-value : (m n : List ℕ) → productOf (merge m n) ≡ productOf m *ℤ productOf n
   unfolding productOf
@@ -196,7 +196,7 @@ module _ (ρ : List ℤ) where
   unfolding sumOf
   multiplied-value none q = sym (zero-*ℤ (sumOf q))
   multiplied-value (term c m p) q =
-      added-value (timesTerm c m q) (multiplied p q) ∙ (λ i. timesTerm-value c m q i +ℤ multiplied-value p q i) ∙ sym (+ℤ-*ℤ (c *ℤ productOf m) (sumOf p) (sumOf q))
+      withTerms-value (timesTerm c m q) (multiplied p q) ∙ (λ i. timesTerm-value c m q i +ℤ multiplied-value p q i) ∙ sym (+ℤ-*ℤ (c *ℤ productOf m) (sumOf p) (sumOf q))
 
   times-one : (x : ℤ) → x *ℤ pos 1 ≡ x
   times-one x = *ℤ-comm x (pos 1) ∙ mul-one x
@@ -205,7 +205,7 @@ module _ (ρ : List ℤ) where
   unfolding sumOf productOf
   normal-value (var i) = +ℤ-idr (pos 1 *ℤ (getD ρ i (pos 0) *ℤ pos 1)) ∙ mul-one (getD ρ i (pos 0) *ℤ pos 1) ∙ times-one (getD ρ i (pos 0))
   normal-value (con c) = keep-value c [] none ∙ +ℤ-idr (c *ℤ pos 1) ∙ times-one c
-  normal-value (a ⊕ b) = added-value (normal a) (normal b) ∙ (λ i. normal-value a i +ℤ normal-value b i)
+  normal-value (a ⊕ b) = withTerms-value (normal a) (normal b) ∙ (λ i. normal-value a i +ℤ normal-value b i)
   normal-value (a ⊗ b) = multiplied-value (normal a) (normal b) ∙ (λ i. normal-value a i *ℤ normal-value b i)
   normal-value (neg a) =
       timesTerm-value (negsuc 0) [] (normal a) ∙ ap (λ (t : ℤ). t *ℤ sumOf (normal a)) (times-one (negsuc 0)) ∙ neg-mul (pos 1) (sumOf (normal a))

@@ -1,5 +1,5 @@
 -- Uniqueness of the public functions' results, over their actual contracts.
---     absolute-unique, distance-unique, clip-unique, inside-unique, first-outside-unique, copy-unique
+--     absolute-unique, gap-unique, clip-unique, inside-unique, first-outside-unique, copy-unique
 -- Assumes nothing.
 use mathlib.Core.Path.{refl, sym, _∙_}
 use mathlib.Core.List.{List}
@@ -8,8 +8,8 @@ use lib.IntN.{ℤ}
 use Rattle.unique.specs.Unique.{Unique}
 use Rattle.whole.proofs.inner.absolute.Kinds as absolute-kinds
 use Rattle.whole.proofs.inner.absolute.Reads as absolute-reads
-use Rattle.whole.proofs.inner.distance.Kinds as distance-kinds
-use Rattle.whole.proofs.inner.distance.Reads as distance-reads
+use Rattle.whole.proofs.inner.gap.Kinds as gap-kinds
+use Rattle.whole.proofs.inner.gap.Reads as gap-reads
 use Rattle.whole.proofs.inner.clip.Kinds as clip-kinds
 use Rattle.whole.proofs.inner.clip.Reads as clip-reads
 use Rattle.whole.proofs.inner.inside.Kinds as inside-kinds
@@ -22,8 +22,8 @@ use Rattle.whole.proofs.inner.first_outside.Reads as first-outside-read
 pub absolute-unique : Unique 0 absolute-kinds.ps absolute-kinds.r absolute-reads.Learnt (Unit {0}) (λ κs e. tt)
 absolute-unique κs a x y e f p q = (p ∙ sym q, refl)
 
-pub distance-unique : Unique 0 distance-kinds.ps distance-kinds.r distance-reads.Learnt (Unit {0}) (λ κs e. tt)
-distance-unique κs a x y e f p q = (p ∙ sym q, refl)
+pub gap-unique : Unique 0 gap-kinds.ps gap-kinds.r gap-reads.Learnt (Unit {0}) (λ κs e. tt)
+gap-unique κs a x y e f p q = (p ∙ sym q, refl)
 
 pub clip-unique : Unique 0 clip-kinds.ps clip-kinds.r clip-reads.Learnt (Unit {0}) (λ κs e. tt)
 clip-unique κs a x y e f p q = (p ∙ sym q, refl)

@@ -2,7 +2,7 @@
 ghost use mathlib.Core.Path.{_≡_};
 ghost use lib.IntN.{natAbs};
 ghost use lib.ListN.{length};
-ghost use Rattle.lists.specs.Total.{distance};
+ghost use Rattle.lists.specs.Total.{gap};
 ghost use Rattle.whole.specs.Clip.{clip};
 ghost use Rattle.whole.specs.Range.{inside, firstOutside};
 
@@ -18,8 +18,8 @@ pub fn absolute(z: i32) -> u32
 }
 
 // How far apart two bytes are.
-pub fn distance(a: u8, b: u8) -> u8
-    ensures { λ r. ⌜ r ≡ distance a b ⌝ }
+pub fn gap(a: u8, b: u8) -> u8
+    ensures { λ r. ⌜ r ≡ gap a b ⌝ }
 {
     if a < b { b - a } else { a - b }
 }

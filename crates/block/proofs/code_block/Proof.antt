@@ -6,7 +6,7 @@ use borrow.Author.Needs.{needs}
 use Rattle.lists.proofs.Parts.{copied}
 use Rattle.quantizer.specs.Range.{highest}
 use Rattle.quantizer.proofs.Range.{built-legal, built-stops}
-use Rattle.block.proofs.Carried.{carried-long}
+use Rattle.block.proofs.Carries.{carried-long}
 use Rattle.block.proofs.Outcome.{few-neighbours, few-samples, few-levels, few-rebuilt, high-flags, quantizer-refused, coded-done}
 use Rattle.block.proofs.code_block.Statement.{statement}
 use Rattle.block.proofs.code_block.Tie as tie

@@ -112,7 +112,7 @@ returns-3 c =
     let values = chromaValues (s .args .qp) (s .args .levels .now) in
     let e =
     chain-refused (lentTests 4 (s .args .qp) (length levels) (length (s .args .dc .now))) (scanTest 4 (firstWide levels) Level ∷ scanTest 4 (firstWide values) Range ∷ []) _
-    (accepted-refused 4 (s .args .qp) (length levels) (length (s .args .dc .now)) (a .accepted .ensures) (c .before .refusal .given .1)) in
+    (accepted-refused (lentTests 4 (s .args .qp) (length levels) (length (s .args .dc .now))) (s .args .qp) (a .accepted .ensures) (c .before .refusal .given .1)) in
     record { says = says (sym e); wrote = written-refused values e }
 
 same-length : tie.Need-same-length

@@ -116,7 +116,7 @@ returns-3 c =
     let values = lumaValues (s .args .qp) (s .args .levels .now) in
     let e =
     chain-refused (lentTests 16 (s .args .qp) (length levels) (length (s .args .dc .now))) (scanTest 16 (firstWide levels) Level ∷ rangeTest values ∷ []) _
-    (accepted-refused 16 (s .args .qp) (length levels) (length (s .args .dc .now)) (a .accepted .ensures) (c .before .refusal .given .1)) in
+    (accepted-refused (lentTests 16 (s .args .qp) (length levels) (length (s .args .dc .now))) (s .args .qp) (a .accepted .ensures) (c .before .refusal .given .1)) in
     record { says = says (sym e); wrote = written-refused values e }
 
 same-length : tie.Need-same-length

@@ -1,124 +1,62 @@
--- `residual::levels` meets its contract: each verdict by its law, and the levels by value between two copies. Assumes nothing.
+-- `residual::levels` meets its contract: the tests' verdict, and the levels by value between two copies. Assumes nothing.
 use borrow.Author.Needs.{needs}
 use mathlib.Core.Path.{sym, ap, _∙_}
-use mathlib.Core.List.{[], _∷_}
-use Prim.Native.Nat.{ℕ, _≤_}
-use native.Mathlib.Omega.{arith}
 use lib.IntN.{pos, negsuc}
 use lib.ListN.{length}
-use Rattle.lists.specs.Chain.{scanTest, stop}
-use Rattle.lists.proofs.Chain.{chain-refused, scan-none, scan-found, written-passed, written-refused}
-use Rattle.whole.proofs.Range.{at-end}
-use Rattle.refusal.specs.declared.Refusal.the-variants.{Residual}
+use Rattle.lists.proofs.Chain.{written-passed, written-refused}
+use Rattle.whole.proofs.Range.{none-each}
 use Rattle.refusal.proofs.Same.{says}
-use Rattle.transform.specs.Entry.{outside}
-use Rattle.transform.proofs.Entry.{small}
 use Rattle.transform.proofs.Sides.{kept}
-use Rattle.residual.specs.Entry.{lentTests}
+use Rattle.residual.specs.Entry.{levelsTests}
 use Rattle.residual.specs.Levels.{quantized, levelsOf}
 use Rattle.residual.specs.Order.{inZigzag}
-use Rattle.residual.proofs.Entry.{Accepted, accepted-legal, accepted-refused}
+use Rattle.residual.proofs.Entry.{accepted-refused, AcceptedResiduals, residuals-legal}
 use Rattle.residual.proofs.levels.Statement.{statement}
 use Rattle.residual.proofs.levels.Tie as tie
 
--- the start, and what `accepted` told
-abbrev start : tie.After-first-outside → tie.Start
-start f = f .before .before .before .before .before
+-- the start, and what the tests told
+abbrev start : tie.After-known-told2 → tie.Start
+start k = k .before .before .before .before
 
-told : (f : tie.After-first-outside) → Accepted 16 (start f .args .qp) (length (start f .args .residual .now)) (length (start f .args .out .now)) (f .before .before .quantizer .given .0 .0)
-told f =
-    let s = start f in
-    accepted-legal 16 (s .args .qp) (length (s .args .residual .now)) (length (s .args .out .now)) (f .before .before .before .before .accepted .ensures) (f .before .before .quantizer .given .1)
-
--- no residual is outside
-scanned : (c : tie.Else1) → 16 ≤ outside (start (c .before) .args .residual .now)
-scanned c = omega (arith, c .before .first-outside .ensures, c .if1 .left)
-
-accepted-requires : tie.Need-accepted-requires
-accepted-requires c κs = search needs
-
-enum-known-refusal : tie.Need-enum-known-refusal
-enum-known-refusal c = search needs
-
-enum-known-quantizer : tie.Need-enum-known-quantizer
-enum-known-quantizer c = search needs
-
-first-outside-requires : tie.Need-first-outside-requires
-first-outside-requires c κs = search needs
-
-returns : tie.Need-returns
-returns c =
-    let f = c .before in
-    let s = start f in
-    let is = f .first-outside .ensures in
-    let e = scan-found (lentTests 16 (s .args .qp) (length (s .args .residual .now)) (length (s .args .out .now))) (told f .passed) 16 (outside (s .args .residual .now)) Residual [] (omega (arith, is, c .if1 .taken)) in
-    record { says = says (ap (λ (k : ℕ). stop (Residual k)) is ∙ sym e); wrote = written-refused (levelsOf (s .args .qp) (s .args .residual .now)) e }
-
-slice-aggregate-copy : tie.Need-slice-aggregate-copy
-slice-aggregate-copy c = search needs
-
-copy-requires : tie.Need-copy-requires
-copy-requires c κs = told (c .before .before) .long
+told : (k : tie.After-known-told2) → AcceptedResiduals 16 (negsuc 254) (pos 255) (start k .args .qp) (start k .args .residual .now) (length (start k .args .out .now)) (k .before .quantizer .given .0 .0)
+told k =
+    let a = start k .args in
+    residuals-legal 16 (negsuc 254) (pos 255) (a .qp) (a .residual .now) (length (a .out .now)) (k .before .before .before .residuals-accepted .ensures) (k .before .quantizer .given .1)
 
 quantized-requires : tie.Need-quantized-requires
 quantized-requires c κs =
-    let w = c .before .before in
-    let f = w .before .before in
-    let s = start f in
-    (rw (told f .number) (told f .legal), kept 255 (c .before .copy .ensures) (small (s .args .residual .now) (s .args .out .now) (told f .long) (scanned (w .before))))
+    let k = c .before .before .before in
+    (rw (told k .number) (told k .legal), kept 255 (c .before .copy .ensures) (none-each (negsuc 254) (pos 255) (start k .args .residual .now) 255 tt tt (told k .none)))
 
-in-zigzag-requires : tie.Need-in-zigzag-requires
-in-zigzag-requires c κs = search needs
-
-slice-aggregate-copy-2 : tie.Need-slice-aggregate-copy-2
-slice-aggregate-copy-2 c = search needs
-
-copy-requires-2 : tie.Need-copy-requires-2
-copy-requires-2 c κs =
-    let room = told (c .before .before .before .before .before .before .before .before) .space in
-    search needs
+returns : tie.Need-returns
+returns c =
+    let p = c .before .before .before in
+    let a = p .before .args in
+    let e = accepted-refused (levelsTests (a .qp) (a .residual .now) (a .out .now)) (a .qp) (p .residuals-accepted .ensures) (c .before .refusal .given .1) in
+    record { says = says (sym e); wrote = written-refused (levelsOf (a .qp) (a .residual .now)) e }
 
 returns-2 : tie.Need-returns-2
 returns-2 c =
-    let a = c .before .before .before in
-    let s = a .before in
-    let e =
-    chain-refused (lentTests 16 (s .args .qp) (length (s .args .residual .now)) (length (s .args .out .now))) (scanTest 16 (outside (s .args .residual .now)) Residual ∷ []) _
-    (accepted-refused 16 (s .args .qp) (length (s .args .residual .now)) (length (s .args .out .now)) (a .accepted .ensures) (c .before .refusal .given .1)) in
-    record { says = says (sym e); wrote = written-refused (levelsOf (s .args .qp) (s .args .residual .now)) e }
-
-same-length : tie.Need-same-length
-same-length c = search needs
-
-returns-3 : tie.Need-returns-3
-returns-3 c =
     let l = c .before .before .before .before in
     let q = l .before in
-    let k = q .before .before in
-    let w = k .before in
-    let f = w .before .before in
-    let s = start f in
-    let e =
-    scan-none (lentTests 16 (s .args .qp) (length (s .args .residual .now)) (length (s .args .out .now))) (told f .passed) 16 (outside (s .args .residual .now)) Residual []
-    (at-end (negsuc 254) (pos 255) (s .args .residual .now) 16 (told f .long) (scanned (w .before))) in
-    let made = c .before .copy2 .ensures ∙ l .in-zigzag .ensures ∙ ap inZigzag (q .quantized .ensures ∙ (λ i. quantized (told f .number i) (k .copy .ensures i))) in
-    record { says = says (sym e); wrote = written-passed (s .args .out .now) e made }
+    let x = q .before .before in
+    let k = x .before .before in
+    let made = c .before .copy2 .ensures ∙ l .in-zigzag .ensures ∙ ap inZigzag (q .quantized .ensures ∙ (λ i. quantized (told k .number i) (x .copy .ensures i))) in
+    record { says = says (sym (told k .passed)); wrote = written-passed (start k .args .out .now) (told k .passed) made }
 
 pub levels-spec : {M : Type 1} → statement M
 levels-spec =
     tie.close
     (tie.spec
-    accepted-requires
-    enum-known-refusal
-    enum-known-quantizer
-    first-outside-requires
-    returns
-    slice-aggregate-copy
-    copy-requires
+    (λ c κs. search needs)
+    (λ c. search needs)
+    (λ c. search needs)
+    (λ c. search needs)
+    (λ c κs. told (c .before) .long)
     quantized-requires
-    in-zigzag-requires
-    slice-aggregate-copy-2
-    copy-requires-2
-    returns-2
-    same-length
-    returns-3)
+    (λ c κs. search needs)
+    (λ c. search needs)
+    (λ c κs. let room = told (c .before .before .before .before .before .before .before) .space in search needs)
+    returns
+    (λ c. search needs)
+    returns-2)

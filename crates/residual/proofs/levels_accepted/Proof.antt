@@ -6,6 +6,7 @@ use Rattle.lists.specs.Chain.{stop}
 use Rattle.lists.proofs.Chain.{written-passed, written-refused}
 use Rattle.refusal.specs.declared.Refusal.the-variants.{Level}
 use Rattle.refusal.proofs.Same.{says}
+use Rattle.residual.specs.Entry.{lentTests}
 use Rattle.residual.proofs.Entry.{Accepted, accepted-legal, accepted-refused, levels-few, levels-refused, levels-wide, levels-fine}
 use borrow.Author.Needs.{needs}
 use Rattle.residual.proofs.levels_accepted.Statement.{statement}
@@ -42,7 +43,7 @@ returns-3 c =
     let a = s .before .args in
     let e =
     levels-refused (a .n) (a .from) (a .qp) (a .predicted) (a .levels .now) (a .room) (s .if1 .left)
-    (accepted-refused 16 (a .qp) (a .predicted) (a .room) (p .accepted .ensures) (c .before .refusal .given .1)) in
+    (accepted-refused (lentTests 16 (a .qp) (a .predicted) (a .room)) (a .qp) (p .accepted .ensures) (c .before .refusal .given .1)) in
     record { says = says (sym e); value = written-refused (a .qp) e }
 
 returns-4 : tie.Need-returns-4

@@ -11,7 +11,7 @@ use Rattle.refusal.proofs.Same.{says}
 use Rattle.residual.specs.Entry.{levelTests, rangeTest, Finishes}
 use Rattle.residual.specs.Rescale.{rescaled}
 use Rattle.residual.specs.Rebuild.{rescaledOf, rebuiltSamples}
-use Rattle.residual.proofs.Entry.{AcceptedLevels, levels-legal, levels-not-legal}
+use Rattle.residual.proofs.Entry.{AcceptedLevels, accepted-refused, levels-legal}
 use Rattle.residual.proofs.Order.{places-each}
 use borrow.Author.Needs.{needs}
 use Rattle.residual.proofs.rebuild.Statement.{statement}
@@ -49,7 +49,7 @@ returns : tie.Need-returns
 returns c =
     let r = c .before in
     let a = r .before .before .before .before .before .args in
-    let v = chain-refused (levelTests 16 0 (a .qp) (length (a .prediction .now)) (a .levels .now) (length (a .out .now))) (rangeTest (rescaledOf (a .qp) (a .levels .now)) ∷ []) _ (levels-not-legal 16 0 (a .qp) (length (a .prediction .now)) (a .levels .now) (length (a .out .now)) (r .before .before .levels-accepted .ensures) (r .refusal .given .1)) in
+    let v = chain-refused (levelTests 16 0 (a .qp) (length (a .prediction .now)) (a .levels .now) (length (a .out .now))) (rangeTest (rescaledOf (a .qp) (a .levels .now)) ∷ []) _ (accepted-refused _ (a .qp) (r .before .before .levels-accepted .ensures) (r .refusal .given .1)) in
     record { says = says (sym v); wrote = ap (λ (w : Verdict Refusal). written w (rebuiltSamples (a .prediction .now) (rescaledOf (a .qp) (a .levels .now))) (a .out .now)) (sym v) }
 
 same-length : tie.Need-same-length

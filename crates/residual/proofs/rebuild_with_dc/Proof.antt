@@ -15,7 +15,7 @@ use Rattle.residual.specs.Entry.{levelTests, rangeTest, Finishes}
 use Rattle.residual.specs.Order.{inPlaces}
 use Rattle.residual.specs.Rescale.{rescaled}
 use Rattle.residual.specs.Rebuild.{rescaledWithDc, rebuiltSamples}
-use Rattle.residual.proofs.Entry.{AcceptedLevels, levels-legal, levels-not-legal}
+use Rattle.residual.proofs.Entry.{AcceptedLevels, accepted-refused, levels-legal}
 use Rattle.residual.proofs.Order.{places-each}
 use borrow.Author.Needs.{needs}
 use Rattle.residual.proofs.rebuild_with_dc.Statement.{statement}
@@ -73,7 +73,7 @@ returns : tie.Need-returns
 returns c =
     let r = c .before in
     let a = r .before .before .before .before .before .args in
-    let v = chain-refused (levelTests 15 1 (a .qp) (length (a .prediction .now)) (a .ac .now) (length (a .out .now))) (rangeTest (rescaledWithDc (a .qp) (a .dc) (a .ac .now)) ∷ []) _ (levels-not-legal 15 1 (a .qp) (length (a .prediction .now)) (a .ac .now) (length (a .out .now)) (r .before .before .levels-accepted .ensures) (r .refusal .given .1)) in
+    let v = chain-refused (levelTests 15 1 (a .qp) (length (a .prediction .now)) (a .ac .now) (length (a .out .now))) (rangeTest (rescaledWithDc (a .qp) (a .dc) (a .ac .now)) ∷ []) _ (accepted-refused _ (a .qp) (r .before .before .levels-accepted .ensures) (r .refusal .given .1)) in
     record { says = says (sym v); wrote = ap (λ (w : Verdict Refusal). written w (rebuiltSamples (a .prediction .now) (rescaledWithDc (a .qp) (a .dc) (a .ac .now))) (a .out .now)) (sym v) }
 
 same-length : tie.Need-same-length

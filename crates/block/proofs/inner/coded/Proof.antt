@@ -3,7 +3,7 @@ use borrow.Author.Needs.{needs}
 use mathlib.Core.Path.{sym, ap, subst, _∙_}
 use Rattle.whole.specs.Bounds.{Each}
 use Rattle.residual.specs.Rescale.{rescaled}
-use Rattle.block.proofs.Carried.{levels-small, coded-small, numbers-small, carried}
+use Rattle.block.proofs.Carries.{levels-small, coded-small, numbers-small, carried}
 use Rattle.block.proofs.inner.coded.Statement.{statement}
 use Rattle.block.proofs.inner.coded.Tie as tie
 

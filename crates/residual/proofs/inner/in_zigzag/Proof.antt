@@ -1,69 +1,20 @@
--- `residual::inner::in_zigzag` meets its contract: a fill. Assumes nothing.
-use mathlib.Core.Path.{ap, _∙_}
-use Prim.Native.Nat.{ℕ, _-_}
-use mir.Syntax.{w32}
-use mir.ValLaws.{toZ-ofZ}
-use native.Mathlib.Omega.{arith}
-use lib.IntN.{pos}
-use lib.ListN.{getD}
-use Rattle.lists.proofs.Tab.{Filling, filling-none, filling-more, filling-done}
-use Rattle.quantizer.specs.Tables.{zigzagOf}
-use Rattle.residual.specs.Order.{inZigzag}
+-- `residual::inner::in_zigzag` meets its contract: the order of the zigzag's table. Assumes nothing.
 use borrow.Author.Needs.{needs}
+use mathlib.Core.Path.{sym, ap, subst, _∙_}
+use mathlib.Core.List.{List}
+use Prim.Native.Nat.{ℕ, _<_}
+use lib.ListN.{getD}
+use Rattle.quantizer.proofs.Tables.{zigzag-permutes}
+use Rattle.residual.specs.Order.{ordered, inZigzag}
 use Rattle.residual.proofs.inner.in_zigzag.Statement.{statement}
 use Rattle.residual.proofs.inner.in_zigzag.Tie as tie
 
-abbrev Inv-loop : tie.InvT-loop
-Inv-loop l out₀ step₀ out step = Filling 16 (λ k. getD l (zigzagOf k) (pos 0)) out step
+in-order-requires : tie.Need-in-order-requires
+in-order-requires c κs = (search needs, λ k h. subst (λ (t : List ℕ). getD t k 0 < 16) (sym (c .zigzag .ensures)) (zigzag-permutes k h .place))
 
-abbrev μ-loop : tie.MeasureT-loop
-μ-loop l out₀ step₀ out step = 16 - step
-
-loop-holds : tie.Need-loop-holds Inv-loop μ-loop
-loop-holds c = filling-none 16 _ (search needs)
-
-zigzag-requires : tie.Need-zigzag-requires Inv-loop μ-loop
-zigzag-requires c κs = search needs
-
-mul-out : tie.Need-mul-out Inv-loop μ-loop
-mul-out c = search needs
-
-array-copy-out-out : tie.Need-array-copy-out-out Inv-loop μ-loop
-array-copy-out-out c = search needs
-
-mul-out-2 : tie.Need-mul-out-2 Inv-loop μ-loop
-mul-out-2 c = search needs
-
-array-set-from-out : tie.Need-array-set-from-out Inv-loop μ-loop
-array-set-from-out c = search needs
-
-add-step : tie.Need-add-step Inv-loop μ-loop
-add-step c = search needs
-
-loop-less : tie.Need-loop-less Inv-loop μ-loop
-loop-less c = search needs
-
-loop-again : tie.Need-loop-again Inv-loop μ-loop
-loop-again c = filling-more 16 _ (c .before .before .before .loop .inv) (omega arith)
-    (toZ-ofZ w32 _ (record { sfits = c .out .given }) ∙ ap (λ (i : ℕ). getD (c .before .before .before .before .args .t1) i (pos 0)) (c .before .zigzag .ensures .0))
-
-returns : tie.Need-returns Inv-loop μ-loop
+returns : tie.Need-returns
 unfolding inZigzag
-returns c = filling-done 16 _ (c .before .loop .inv) (omega arith)
+returns c = c .in-order .ensures ∙ ap (λ (t : List ℕ). ordered 16 (λ k. getD t k 0) (c .before .before .before .args .t1)) (c .before .zigzag .ensures)
 
 pub in-zigzag-spec : {M : Type 1} → statement M
-in-zigzag-spec =
-    tie.close
-    (tie.spec
-    Inv-loop
-    μ-loop
-    loop-holds
-    zigzag-requires
-    mul-out
-    array-copy-out-out
-    mul-out-2
-    array-set-from-out
-    add-step
-    loop-less
-    loop-again
-    returns)
+in-zigzag-spec = tie.close (tie.spec (λ c. search needs) (λ c κs. search needs) in-order-requires returns)

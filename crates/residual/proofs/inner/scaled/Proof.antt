@@ -1,36 +1,42 @@
--- `residual::inner::scaled` meets its contract: the product of a level of 16 bits and a scale fits. Assumes nothing.
-use mathlib.Core.Path.{refl}
-use mathlib.Core.List.{List, [], _∷_}
-use Prim.Native.Nat.{ℕ}
+-- `residual::inner::scaled` meets its contract: the product is bounded by what is required, and the rest is read back from its bits.
+-- Assumes nothing.
+use borrow.Author.Needs.{needs}
+use Prim.Native.Nat.{_^_}
 use native.Mathlib.Omega.{arith}
-use lib.IntN.{ℤ, pos}
-use lib.ListN.{getD}
+use lib.IntN.{ℤ, pos, _+ℤ_, _*ℤ_}
 use mir.Syntax.{w32}
-use Rattle.whole.specs.Bounds.{Within}
-use Rattle.whole.proofs.Steps.{inp, mul, safe-of, exact-of, at-most, bounded-at}
+use mir.Val.{toZ, ofZ}
+use mir.ValLaws.{toZ-ofZ}
+use Rattle.whole.proofs.Bound.{Reads, plus, shift, fits, wrap, argument}
 use Rattle.residual.proofs.inner.scaled.Statement.{statement}
 use Rattle.residual.proofs.inner.scaled.Tie as tie
 
-abbrev numbers : tie.Start → List ℤ
-numbers c = c .args .level ∷ pos (c .args .scale) ∷ []
+-- the product, as the machine computes it
+abbrev times : tie.Start → ℤ
+times c = toZ w32 (ofZ w32 (c .args .number)) *ℤ toZ w32 (ofZ w32 (pos (c .args .scale)))
 
-bounds : List ℕ
-bounds = 32768 ∷ 7424 ∷ []
+product : (c : tie.Start) → Reads 973078528 (times c) (c .args .number *ℤ pos (c .args .scale))
+product c =
+    let scale : Reads 29696 (toZ w32 (ofZ w32 (pos (c .args .scale)))) (pos (c .args .scale)) = argument w32 (record { size = c .pre .0 .low }) tt in
+    record {
+      is = λ i. toZ-ofZ w32 (c .args .number) (c .fits .number) i *ℤ scale .is i;
+      small = c .pre .0 .product .size;
+    }
 
-small : (c : tie.Start) (i : ℕ) → Within (at-most bounds i) (getD (numbers c) i (pos 0))
-unfolding bounds
-small c = bounded-at bounds (numbers c) refl (c .pre .0, (record { size = c .pre .1 }, tt))
-
-cast-result : tie.Need-cast-result
-cast-result c = record { sfits = omega (arith, c .pre .1) }
-
-mul-result : tie.Need-mul-result
-unfolding bounds
-mul-result c = safe-of w32 (at-most bounds) (numbers c) (small c) (mul (inp 0) (inp 1)) tt
+sum : (c : tie.Start) → Reads 973078536 (toZ w32 (ofZ w32 (times c)) +ℤ toZ w32 (ofZ w32 (pos (c .args .round)))) (c .args .number *ℤ pos (c .args .scale) +ℤ pos (c .args .round))
+sum c = plus (wrap w32 (product c) tt) (argument w32 (record { size = c .pre .1 }) tt)
 
 returns : tie.Need-returns
-unfolding bounds
-returns c = exact-of w32 (at-most bounds) (numbers c) (small c) (mul (inp 0) (inp 1)) tt
+returns c = wrap w32 (shift (2 ^ c .args .shift) (wrap w32 (sum c) tt)) tt .is
 
 pub scaled-spec : {M : Type 1} → statement M
-scaled-spec = tie.close (tie.spec cast-result mul-result returns)
+scaled-spec =
+    tie.close
+    (tie.spec
+    (λ c. record { sfits = omega (arith, c .pre .0 .low) })
+    (λ c. fits (product c) tt)
+    (λ c. record { sfits = omega (arith, c .pre .1) })
+    (λ c. fits (sum c) tt)
+    (λ c. search needs)
+    (λ c. search needs)
+    returns)

@@ -1,5 +1,5 @@
 -- `residual16::rebuilt::ac` meets its contract: a fill whose place 0 stands at the start. Assumes nothing.
-use mathlib.Core.Path.{refl, ap, _∙_}
+use mathlib.Core.Path.{_≡_, refl, ap, _∙_}
 use mathlib.Core.List.{List, _∷_}
 use Prim.Native.Nat.{ℕ, _-_, _<_}
 use native.Mathlib.Omega.{arith}
@@ -10,6 +10,7 @@ use mir.Syntax.{w32}
 use mir.ValLaws.{toZ-ofZ}
 use Rattle.lists.proofs.Tab.{Filling, filling-none, filling-more, filling-done}
 use Rattle.quantizer.specs.Tables.{stepOf}
+use Rattle.quantizer.proofs.Tables.{zigzag-permutes}
 use Rattle.residual.specs.Order.{inPlaces}
 use Rattle.residual16.specs.Rebuilt.{acIn}
 use Rattle.residual16.proofs.Samples.{ac-step, step-some}
@@ -21,35 +22,35 @@ abbrev levelIn : List ℤ → ℕ → ℕ → ℤ
 levelIn levels b place = getD (pos 0 ∷ acIn levels b) (stepOf place) (pos 0)
 
 abbrev Inv-loop : tie.InvT-loop
-Inv-loop levels b before out₀ place₀ out place = (0 < place) × Filling 16 (levelIn levels b) out place
+Inv-loop levels b before steps out₀ place₀ out place = (0 < place) × Filling 16 (levelIn levels b) out place
 
 abbrev μ-loop : tie.MeasureT-loop
-μ-loop levels b before out₀ place₀ out place = 16 - place
+μ-loop levels b before steps out₀ place₀ out place = 16 - place
 
 abbrev zeros : List ℤ
 zeros = replicate 16 (pos 0)
 
+-- the step of a place, as it is read from the table, which is below 16
+step-is : (c : tie.In-loop Inv-loop μ-loop) → getD (c .before .before .steps .result) (c .before .loop .place) 0 ≡ stepOf (c .before .loop .place)
+step-is c = ap (λ (t : List ℕ). getD t (c .before .loop .place) 0) (c .before .before .steps .ensures)
+
+below : (c : tie.In-loop Inv-loop μ-loop) → getD (c .before .before .steps .result) (c .before .loop .place) 0 < 16
+below c = rw (step-is c) (zigzag-permutes (c .before .loop .place) (c .loop-test .taken) .step)
+
 loop-holds : tie.Need-loop-holds Inv-loop μ-loop
 loop-holds c = (omega arith, filling-more 16 _ {d = zeros} (filling-none 16 _ refl) (omega arith) refl)
 
-add-out : tie.Need-add-out Inv-loop μ-loop
-add-out c = let l = c .step .ensures .1 in omega (arith, c .before .before .before .pre .1)
-
-inside : tie.Need-shared-slice-copy-out-out Inv-loop μ-loop
-inside c = let l = c .step .ensures .1 in omega (arith, c .before .before .before .pre .1, c .before .before .before .pre .0)
-
 loop-again : tie.Need-loop-again Inv-loop μ-loop
 loop-again c =
-    let S = c .before in
-    let T = S .before in
+    let T = c .before in
     let L = T .before in
-    let s = L .before in
-    let e = S .step .ensures .0 in
+    let s = L .before .before in
+    let e = step-is T in
     let i = L .loop .inv in (
       omega arith,
       filling-more 16 _ (i .1) (T .loop-test .taken)
           (toZ-ofZ w32 _ (record { sfits = c .out .given })
-          ∙ ac-step (s .args .levels .now) (s .args .b) (S .step .result) (rw e (step-some (L .loop .place) (i .0) (T .loop-test .taken))) (S .step .ensures .1)
+          ∙ ac-step (s .args .levels .now) (s .args .b) (getD (L .before .steps .result) (L .loop .place) 0) (rw e (step-some (L .loop .place) (i .0) (T .loop-test .taken))) (below T)
           ∙ ap (λ (k : ℕ). getD (pos 0 ∷ acIn (s .args .levels .now) (s .args .b)) k (pos 0)) e),
     )
 
@@ -65,11 +66,13 @@ ac-spec =
     μ-loop
     (λ c. search needs)
     (λ c. search needs)
-    loop-holds
     (λ c κs. search needs)
-    add-out
+    loop-holds
     (λ c. search needs)
-    inside
+    (λ c. search needs)
+    (λ c. record { fits = omega (arith, below c, c .before .before .before .pre .1) })
+    (λ c. record { fits = omega (arith, below c, c .before .before .before .pre .1) })
+    (λ c. omega (arith, below c, c .before .before .before .pre .1, c .before .before .before .pre .0))
     (λ c. search needs)
     (λ c. search needs)
     (λ c. search needs)

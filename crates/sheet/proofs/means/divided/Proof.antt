@@ -4,7 +4,7 @@ use Prim.Native.Nat.{ℕ}
 use borrow.Author.Needs.{needs}
 use borrow.Author.Tests.{eq-eqb, ne-eqb}
 use lib.Ieee.{Float}
-use Rattle.sheet.specs.Code.{sheetFrom, Carried}
+use Rattle.sheet.specs.Code.{sheetFrom, Divides}
 use Rattle.sheet.specs.Means.{given}
 use Rattle.sheet.specs.declared.Sheeted.the-variants as answer
 use Rattle.sheet.specs.declared.sums.Totals.{Totals}
@@ -12,11 +12,11 @@ use Rattle.sheet.proofs.means.divided.Statement.{statement}
 use Rattle.sheet.proofs.means.divided.Tie as tie
 
 module _ (present : ℕ) (t : Totals) where
-  none : present ≡ 0 → Carried present t answer.Nothing
+  none : present ≡ 0 → Divides present t answer.Nothing
   none e = record { said = refl; given = simp (eq-eqb present 0 e) }
 
   some : (present ≡ 0 → ⊥) → {a s d : Float} → a ≡ sheetFrom present t .absolute → s ≡ sheetFrom present t .squared → d ≡ sheetFrom present t .signed
-      → Carried present t (answer.Sheet (record { absolute = a; squared = s; signed = d }))
+      → Divides present t (answer.Sheet (record { absolute = a; squared = s; signed = d }))
   some h a s d = record { said = refl; given = simp (ne-eqb present 0 h) (λ i. given (record { absolute = a i; squared = s i; signed = d i })) }
 
 returns : tie.Need-returns

@@ -35,13 +35,13 @@ row-requires c κs =
     let p = start c .pre .1 in
     (omega (arith, z, p .own), omega (arith, z, p .back))
 
-added-requires : tie.Need-added-requires Inv-loop μ-loop
-added-requires c κs = (adding-below _ _ _ _ _ (c .before .before .loop .inv) (omega arith), at-most-more (c .row .ensures .low) (omega arith))
+add-sums-requires : tie.Need-add-sums-requires Inv-loop μ-loop
+add-sums-requires c κs = (adding-below _ _ _ _ _ (c .before .before .loop .inv) (omega arith), at-most-more (c .row .ensures .low) (omega arith))
 
 loop-again : tie.Need-loop-again Inv-loop μ-loop
 loop-again c =
     let R = c .before in
-    adding-more _ _ _ _ _ (R .before .before .loop .inv) (R .before .loop-test .taken) (R .row .ensures) (c .added .ensures)
+    adding-more _ _ _ _ _ (R .before .before .loop .inv) (R .before .loop-test .taken) (R .row .ensures) (c .add-sums .ensures)
 
 returns : tie.Need-returns Inv-loop μ-loop
 returns c = adding-done _ _ _ _ _ (c .before .loop .inv) (omega arith) (omega arith)
@@ -57,7 +57,7 @@ macroblock-spec =
     mul-row
     add-row
     row-requires
-    added-requires
+    add-sums-requires
     (λ c. search needs)
     (λ c. search needs)
     loop-again

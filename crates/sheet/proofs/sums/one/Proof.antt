@@ -11,7 +11,7 @@ returns c =
     let W = S .before in
     let D = W .before in
     let s = D .before .before .before .before .before in
-    single (s .args .original .now) (s .args .rebuilt .now) (s .args .at) (D .distance .ensures) (W .wide .ensures) (S .squared .ensures)
+    single (s .args .original .now) (s .args .rebuilt .now) (s .args .at) (D .gap .ensures) (W .wide .ensures) (S .squared .ensures)
     (W2 .wide2 .ensures) (c .wide3 .ensures)
 
 pub one-spec : {M : Type 1} → statement M

@@ -28,8 +28,8 @@ part-requires c κs =
     let s = I .before .before .before .before .before in
     (record { sound = s .pre .0; macroblock = I .loop-test .taken; block = omega arith }, s .pre .1)
 
-added-wide-requires : tie.Need-added-wide-requires Inv-loop μ-loop
-added-wide-requires c κs =
+add-to-totals-requires : tie.Need-add-to-totals-requires Inv-loop μ-loop
+add-to-totals-requires c κs =
     let I = c .before .before in
     (adding-below _ _ _ _ _ (I .before .loop .inv) (omega (arith, samples-fit (I .before .before .before .before .before .pre .0))), c .part .ensures .low)
 
@@ -37,7 +37,7 @@ loop-again : tie.Need-loop-again Inv-loop μ-loop
 loop-again c =
     let P = c .before in
     let I = P .before .before in
-    adding-more _ _ _ _ _ (I .before .loop .inv) (I .loop-test .taken) (P .part .ensures) (c .added-wide .ensures)
+    adding-more _ _ _ _ _ (I .before .loop .inv) (I .loop-test .taken) (P .part .ensures) (c .add-to-totals .ensures)
 
 returns : tie.Need-returns Inv-loop μ-loop
 unfolding presentTotal
@@ -55,7 +55,7 @@ over-picture-spec =
     (λ c. adding-none _ _ _ _ _ refl)
     (λ c. search needs)
     part-requires
-    added-wide-requires
+    add-to-totals-requires
     (λ c. search needs)
     (λ c. search needs)
     loop-again

@@ -13,13 +13,13 @@ Inv-loop original rebuilt at sums₀ x₀ sums x = Adding 16 1 (λ (g : ℕ → 
 abbrev μ-loop : tie.MeasureT-loop
 μ-loop original rebuilt at sums₀ x₀ sums x = 16 - x
 
-added-requires : tie.Need-added-requires Inv-loop μ-loop
-added-requires c κs = (adding-below _ _ _ _ _ (c .before .before .loop .inv) (omega arith), at-most-more (c .one .ensures .low) (omega arith))
+add-sums-requires : tie.Need-add-sums-requires Inv-loop μ-loop
+add-sums-requires c κs = (adding-below _ _ _ _ _ (c .before .before .loop .inv) (omega arith), at-most-more (c .one .ensures .low) (omega arith))
 
 loop-again : tie.Need-loop-again Inv-loop μ-loop
 loop-again c =
     let O = c .before in
-    adding-more _ _ _ _ _ (O .before .before .loop .inv) (O .before .loop-test .taken) (O .one .ensures) (c .added .ensures)
+    adding-more _ _ _ _ _ (O .before .before .loop .inv) (O .before .loop-test .taken) (O .one .ensures) (c .add-sums .ensures)
 
 returns : tie.Need-returns Inv-loop μ-loop
 returns c = adding-done _ _ _ _ _ (c .before .loop .inv) (omega arith) (omega arith)
@@ -34,7 +34,7 @@ row-spec =
     (λ c. adding-none _ _ _ _ _ (c .none .ensures))
     (λ c. search needs)
     (λ c κs. search needs)
-    added-requires
+    add-sums-requires
     (λ c. search needs)
     (λ c. search needs)
     loop-again

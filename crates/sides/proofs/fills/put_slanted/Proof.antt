@@ -19,19 +19,19 @@ use Rattle.sides.proofs.fills.put_slanted.Statement.{statement}
 use Rattle.sides.proofs.fills.put_slanted.Tie as tie
 
 abbrev Inv-loop2 : tie.InvT-loop2
-Inv-loop2 n a b c out₀ steps y row x₀ out x = Squaring n (slanted n (toZ w32 a) (toZ w32 b) (toZ w32 c)) out y x
+Inv-loop2 n a b c out₀ rises y row x₀ out x = Squaring n (slanted n (toZ w32 a) (toZ w32 b) (toZ w32 c)) out y x
 
 abbrev μ-loop2 : tie.MeasureT-loop2
-μ-loop2 n a b c out₀ steps y row x₀ out x = n - x
+μ-loop2 n a b c out₀ rises y row x₀ out x = n - x
 
 abbrev Inv-loop : tie.InvT-loop
-Inv-loop n a b c out₀ steps y₀ out y = Squaring n (slanted n (toZ w32 a) (toZ w32 b) (toZ w32 c)) out y 0
+Inv-loop n a b c out₀ rises y₀ out y = Squaring n (slanted n (toZ w32 a) (toZ w32 b) (toZ w32 c)) out y 0
 
 abbrev μ-loop : tie.MeasureT-loop
-μ-loop n a b c out₀ steps y₀ out y = n - y
+μ-loop n a b c out₀ rises y₀ out y = n - y
 
-steps-requires : tie.Need-steps-requires Inv-loop2 μ-loop2 Inv-loop μ-loop
-steps-requires c κs = let p = c .before .pre in (p .0, p .1, within (argument w32 (p .3) tt))
+rises-requires : tie.Need-rises-requires Inv-loop2 μ-loop2 Inv-loop μ-loop
+rises-requires c κs = let p = c .before .pre in (p .0, p .1, within (argument w32 (p .3) tt))
 
 row-start-requires : tie.Need-row-start-requires Inv-loop2 μ-loop2 Inv-loop μ-loop
 row-start-requires c κs =
@@ -42,7 +42,7 @@ shown-requires : tie.Need-shown-requires Inv-loop2 μ-loop2 Inv-loop μ-loop
 shown-requires c κs =
     let r = c .before .before .before in
     let s = r .before .before .before in
-    (within (argument w32 (r .row-start .ensures .1) tt), within (argument w32 (each-at 20000000 (s .steps .result) (s .steps .ensures .1) (c .before .before .loop2 .x)) tt))
+    (within (argument w32 (r .row-start .ensures .1) tt), within (argument w32 (each-at 20000000 (s .rises .result) (s .rises .ensures .1) (c .before .before .loop2 .x)) tt))
 
 loop2-again : tie.Need-loop2-again Inv-loop2 μ-loop2 Inv-loop μ-loop
 loop2-again c =
@@ -53,8 +53,8 @@ loop2-again c =
     squaring-more _ _ (l .loop2 .inv) (omega arith) (omega arith)
     (slanted-by _ _ _ _ _ _
     (argument w32 (r .row-start .ensures .1) tt .is ∙ r .row-start .ensures .0)
-    (argument w32 (each-at 20000000 (s .steps .result) (s .steps .ensures .1) x) tt .is
-    ∙ ap (λ (t : List ℤ). getD t x (pos 0)) (s .steps .ensures .0)
+    (argument w32 (each-at 20000000 (s .rises .result) (s .rises .ensures .1) x) tt .is
+    ∙ ap (λ (t : List ℤ). getD t x (pos 0)) (s .rises .ensures .0)
     ∙ getD-tab 16 _ x (pos 0) (omega arith))
     (c .shown .ensures))
 
@@ -73,7 +73,7 @@ pub put-slanted-spec : {M : Type 1} → statement M
 put-slanted-spec =
     tie.close
     (tie.spec Inv-loop2 μ-loop2 Inv-loop μ-loop
-    steps-requires
+    rises-requires
     (λ c. squaring-none _ _ (omega arith))
     row-start-requires
     (λ c. c .before .before .loop .inv)
