@@ -214,11 +214,12 @@ static uint64_t promised_distance(void) {
 static uint64_t code_plane(void) {
     size_t width = (size_t)number();
     size_t height = (size_t)number();
+    size_t rows = (size_t)number();
     uint8_t qp = (uint8_t)number();
     struct bytes plane = bytes();
     struct bytes file = bytes();
     struct bytes rebuilt = bytes();
-    return fb_code_plane(width, height, qp, plane.at, plane.length, file.at, file.length, rebuilt.at, rebuilt.length);
+    return fb_code_plane(width, height, rows, qp, plane.at, plane.length, file.at, file.length, rebuilt.at, rebuilt.length);
 }
 
 static uint64_t read_head(void) {

@@ -86,7 +86,7 @@ pub fb-promised-distance-unique : Unique 0 fb-promised-distance.ps fb-promised-d
 fb-promised-distance-unique κs a x y e f p q = (p ∙ sym q, refl)
 
 -- both outputs at exit
-pub fb-code-plane-unique : Unique 3 fb-code-plane.ps fb-code-plane.r fb-code-plane-reads.Learnt (List ℕ × List ℕ) (λ κs e. (now (e .1 .1 .1 .1 .0), now (e .1 .1 .1 .1 .1 .0)))
+pub fb-code-plane-unique : Unique 3 fb-code-plane.ps fb-code-plane.r fb-code-plane-reads.Learnt (List ℕ × List ℕ) (λ κs e. (now (e .1 .1 .1 .1 .1 .0), now (e .1 .1 .1 .1 .1 .1 .0)))
 fb-code-plane-unique κs a x y e f p q =
     let file = p .filed ∙ sym (q .filed) in
     let plane = p .stored ∙ sym (q .stored) in

@@ -1,7 +1,7 @@
 -- From the promise of an entry point to that of its exported function.
 --     says-sent, sent       where no value comes back
 --     value-sent          where a value comes back, which counts on success only
---     choice-sent, size-sent     a mode and its SAD; width and height
+--     choice-sent, head-sent     a mode and its SAD; width and height
 -- Assumes nothing.
 use mathlib.Core.Path.{_≡_, refl, ap, _∙_}
 use mathlib.Core.List.{List}
@@ -11,7 +11,7 @@ use Rattle.refusal.specs.Number.{Says}
 use Rattle.refusal.specs.declared.Refusal.{Refusal}
 use Rattle.refusal.proofs.Same.{says-same}
 use Rattle.intra4.specs.Choice.{Best, nothing}
-use Rattle.fleecebutton.specs.Word.{wordOf, choiceValue, sizeValue, Sends}
+use Rattle.fleecebutton.specs.Word.{wordOf, choiceValue, headValue, Sends}
 
 -- the word is of what the tests come to
 pub says-sent : (value : ℕ) {v v′ : Verdict Refusal} {w : ℕ} → Says v v′ → w ≡ wordOf v value → w ≡ wordOf v′ value
@@ -43,14 +43,17 @@ pub choice-sent : (v′ : Verdict Refusal) (best : Best) {v : Verdict Refusal} {
     → w ≡ wordOf v′ (choiceValue best)
 choice-sent v′ best s e h = value-sent choiceValue v′ best nothing s e h
 
-size-passed : (v : Verdict Refusal) (width height : ℕ) → wordOf v (sizeValue (written v width 0) (written v height 0)) ≡ wordOf v (sizeValue width height)
-size-passed pass width height = refl
-size-passed (stop r) width height = refl
+head-passed : (v : Verdict Refusal) (width height rows : ℕ)
+    → wordOf v (headValue (written v width 0) (written v height 0) (written v rows 0)) ≡ wordOf v (headValue width height rows)
+head-passed pass width height rows = refl
+head-passed (stop r) width height rows = refl
 
-pub size-sent : (v′ : Verdict Refusal) (width height : ℕ) {v : Verdict Refusal} {x y w : ℕ}
+pub head-sent : (v′ : Verdict Refusal) (width height rows : ℕ) {v : Verdict Refusal} {x y z w : ℕ}
     → Says v v′
     → x ≡ written v′ width 0
     → y ≡ written v′ height 0
-    → w ≡ wordOf v (sizeValue x y)
-    → w ≡ wordOf v′ (sizeValue width height)
-size-sent v′ width height {v} {x} {y} s e g h = says-sent (sizeValue x y) s h ∙ (λ i. wordOf v′ (sizeValue (e i) (g i))) ∙ size-passed v′ width height
+    → z ≡ written v′ rows 0
+    → w ≡ wordOf v (headValue x y z)
+    → w ≡ wordOf v′ (headValue width height rows)
+head-sent v′ width height rows {v} {x} {y} {z} s e g f h =
+    says-sent (headValue x y z) s h ∙ (λ i. wordOf v′ (headValue (e i) (g i) (f i))) ∙ head-passed v′ width height rows

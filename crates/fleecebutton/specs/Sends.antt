@@ -24,13 +24,13 @@ use Rattle.quantizer.specs.Range.{numberTests}
 use Rattle.block.specs.Block.{codedLevels, codedSamples}
 use Rattle.block.specs.Entry.{codeTests}
 use Rattle.distance.specs.Entry.{samplesOff}
-use Rattle.record.specs.Entry.{headTests, widthAt, heightAt}
+use Rattle.head.specs.Entry.{headTests, widthAt, heightAt, rowsAt}
 use Rattle.picture.specs.Plane.{layoutOf}
-use Rattle.plane.specs.Code.{codePlaneTests, codedFile, codedPlane}
+use Rattle.plane.specs.Code.{inSlices, codePlaneTests, codedFile, codedPlane}
 use Rattle.plane.specs.Decode.{decodeTests, decodedPlane}
 use Rattle.sheet.specs.Entry.{writeTests}
 use Rattle.sheet.specs.Means.{givenOf, areaOf}
-use Rattle.fleecebutton.specs.Word.{wordOf, choiceValue, sizeValue, sheetValue, Sends}
+use Rattle.fleecebutton.specs.Word.{wordOf, choiceValue, headValue, sheetValue, Sends}
 
 abbrev pub PredictSends : (neighbours : List ℕ) (flags mode : ℕ) (before : List ℕ) (w : ℕ) (after : List ℕ) → Type 0
 PredictSends neighbours flags mode before w after =
@@ -80,13 +80,13 @@ abbrev pub PromisedDistanceSends : (qp w : ℕ) → Type 0
 PromisedDistanceSends qp w = w ≡ wordOf (chain (numberTests qp)) (samplesOff qp)
 
 -- two outputs: the file area and the rebuilt plane, file and rebuilt at entry, file′ and rebuilt′ at exit; the value is the bytes used
-pub record CodePlaneSends (width height qp : ℕ) (plane file rebuilt : List ℕ) (w : ℕ) (file′ rebuilt′ : List ℕ) : Type 0 where
-  pub word : w ≡ wordOf (chain (codePlaneTests width height qp plane file rebuilt)) (length (codedFile (layoutOf width height) qp plane))
-  pub filed : file′ ≡ written (chain (codePlaneTests width height qp plane file rebuilt)) (over (codedFile (layoutOf width height) qp plane) file) file
-  pub stored : rebuilt′ ≡ written (chain (codePlaneTests width height qp plane file rebuilt)) (codedPlane (layoutOf width height) qp plane) rebuilt
+pub record CodePlaneSends (width height rows qp : ℕ) (plane file rebuilt : List ℕ) (w : ℕ) (file′ rebuilt′ : List ℕ) : Type 0 where
+  pub word : w ≡ wordOf (chain (codePlaneTests width height rows qp plane file rebuilt)) (length (codedFile (inSlices width height rows) qp plane))
+  pub filed : file′ ≡ written (chain (codePlaneTests width height rows qp plane file rebuilt)) (over (codedFile (inSlices width height rows) qp plane) file) file
+  pub stored : rebuilt′ ≡ written (chain (codePlaneTests width height rows qp plane file rebuilt)) (codedPlane (inSlices width height rows) qp plane) rebuilt
 
 abbrev pub ReadHeadSends : (file : List ℕ) (w : ℕ) → Type 0
-ReadHeadSends file w = w ≡ wordOf (chain (headTests file)) (sizeValue (widthAt file) (heightAt file))
+ReadHeadSends file w = w ≡ wordOf (chain (headTests file)) (headValue (widthAt file) (heightAt file) (rowsAt file))
 
 abbrev pub DecodePlaneSends : (file before : List ℕ) (w : ℕ) (after : List ℕ) → Type 0
 DecodePlaneSends file before w after = Sends (decodeTests file before) 0 (decodedPlane file) before w after

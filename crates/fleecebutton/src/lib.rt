@@ -143,27 +143,28 @@ pub extern "C" fn fb_promised_distance(qp: u8) -> u64
     word::of_promised(distance::promised_distance(qp))
 }
 
-// The record file of a plane, and the plane that a decoder rebuilds from it; the bytes used are the word's value.
+// The record file of a plane in slices of so many rows, and the plane that a decoder rebuilds from it; the bytes used are the word's value.
 #[no_mangle]
 pub extern "C" fn fb_code_plane(
     width: usize,
     height: usize,
+    rows: usize,
     qp: u8,
     plane: &[u8],
     file: &mut [u8],
     rebuilt: &mut [u8],
 ) -> u64
-    ensures { λ r. ⌜ CodePlaneSends width height qp (now (plane .entry)) (now (file .entry)) (now (rebuilt .entry)) r (now (file .exit)) (now (rebuilt .exit)) ⌝ }
+    ensures { λ r. ⌜ CodePlaneSends width height rows qp (now (plane .entry)) (now (file .entry)) (now (rebuilt .entry)) r (now (file .exit)) (now (rebuilt .exit)) ⌝ }
 {
-    word::of_plane(plane::code_plane(width, height, qp, plane, file, rebuilt))
+    word::of_plane(plane::code_plane(width, height, rows, qp, plane, file, rebuilt))
 }
 
-// The size of the picture whose file this is: width + 256 * height is the word's value.
+// The size of the picture whose file this is and the rows of a slice: width + 256 * height + 65536 * rows is the word's value.
 #[no_mangle]
 pub extern "C" fn fb_read_head(file: &[u8]) -> u64
     ensures { λ r. ⌜ ReadHeadSends (now (file .entry)) r ⌝ }
 {
-    word::of_head(record::read_head(file))
+    word::of_head(head::read_head(file))
 }
 
 // The plane of a record file.

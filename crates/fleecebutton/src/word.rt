@@ -6,15 +6,15 @@ ghost use Rattle.refusal.specs.Number.{said};
 ghost use Rattle.intra4.specs.Entry.{saidChosen, bestIn};
 ghost use Rattle.quantizer.specs.Range.{saidBuilt, qpOf};
 ghost use Rattle.distance.specs.Entry.{saidPromised, valueOf};
-ghost use Rattle.record.specs.Entry.{said as saidHead, widthOf, heightOf};
+ghost use Rattle.head.specs.Entry.{saidHead, widthOf, heightOf, rowsOf};
 ghost use Rattle.plane.specs.Code.{saidPlane, bytesUsed};
 ghost use Rattle.sheet.specs.Entry.{saidSheeted, givenIn};
-ghost use Rattle.fleecebutton.specs.Word.{places, wordOf, choiceValue, sizeValue, sheetValue};
+ghost use Rattle.fleecebutton.specs.Word.{places, wordOf, choiceValue, headValue, sheetValue};
 use distance::Promised;
+use head::Head;
 use intra4::Chosen;
 use plane::CodedPlane;
 use quantizer::Built;
-use record::Head;
 use refusal::Answer;
 use refusal::Refusal;
 use sheet::Sheeted;
@@ -80,11 +80,13 @@ pub(crate) fn of_promised(promised: Promised) -> u64
 }
 
 pub(crate) fn of_head(head: Head) -> u64
-    requires { ⌜ (widthOf head ≤ 128) × (heightOf head ≤ 128) ⌝ }
-    ensures { λ r. ⌜ r ≡ wordOf (saidHead head) (sizeValue (widthOf head) (heightOf head)) ⌝ }
+    requires { ⌜ (widthOf head ≤ 128) × (heightOf head ≤ 128) × (rowsOf head ≤ 128) ⌝ }
+    ensures { λ r. ⌜ r ≡ wordOf (saidHead head) (headValue (widthOf head) (heightOf head) (rowsOf head)) ⌝ }
 {
     match head {
-        Head::Legal(width, height, _, _) => of_success((width + 256 * height) as u64),
+        Head::Legal(width, height, rows, _) => {
+            of_success((width + 256 * height + 65536 * rows) as u64)
+        }
         Head::Refused(refusal) => of_refusal(refusal),
     }
 }

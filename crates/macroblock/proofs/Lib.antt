@@ -5,3 +5,4 @@ pub mod Own
 pub mod RecordFrom
 pub mod Sixteen
 pub mod Unique
+pub mod Witness

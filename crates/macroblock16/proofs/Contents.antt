@@ -21,7 +21,7 @@ use Rattle.quantizer.proofs.Range.{number-passes, number-fails, number-legal}
 use Rattle.sides.specs.Rules.{permitted}
 use Rattle.residual16.specs.Rebuilt.{dcFits, acFits, firstAc}
 use Rattle.record.specs.Kinds.{inWhole}
-use Rattle.record.specs.Numbers.{numberAt}
+use Rattle.octets.specs.Numbers.{numberAt}
 use Rattle.record.specs.Records.{qpIn, wholeModeIn, levelWith, allLevelsIn}
 use Rattle.picture.specs.declared.Layout.{Layout}
 use Rattle.picture.specs.Whole.{flagsRound}

@@ -30,7 +30,7 @@ use Rattle.quantizer.specs.Range.{highest, periodOf}
 use Rattle.quantizer.proofs.Range.{number-passes, number-fails, number-legal}
 use Rattle.intra4.specs.Rules.{permitted}
 use Rattle.record.specs.Kinds.{inFours}
-use Rattle.record.specs.Numbers.{numberAt}
+use Rattle.octets.specs.Numbers.{numberAt}
 use Rattle.record.specs.Records.{qpIn, modeIn, levelIn, levelsIn}
 use Rattle.picture.specs.declared.Layout.{Layout}
 use Rattle.picture.specs.Presence.{flagsOf}

@@ -33,12 +33,13 @@ use Rattle.residual.specs.Quantize.{levelBy}
 use Rattle.residual.specs.Rebuild.{added, rebuiltSamples}
 use Rattle.residual.specs.Rescale.{scaledBy, rescaled}
 use Rattle.block.specs.Block.{residualOf}
-use Rattle.record.specs.Modes.{packed}
-use Rattle.record.specs.Numbers.{levelBytes}
-use Rattle.record.specs.Records.{summed, recordWith, recordOf, levelsIn}
+use Rattle.octets.specs.Modes.{packed}
+use Rattle.octets.specs.Numbers.{levelBytes}
+use Rattle.octets.specs.Sum.{summed}
+use Rattle.record.specs.Records.{recordWith, recordOf, levelsIn}
 use Rattle.picture.specs.Order as order
 use Rattle.picture.specs.Order.{covers, blockTable, tablePlace, columnIn, rowIn, blockColumn, blockRow, orderAt}
-use Rattle.picture.specs.Presence.{present, presentAt, flagsOf}
+use Rattle.picture.specs.Presence.{sameSlice, present, presentAt, flagsOf}
 use Rattle.picture.specs.Plane.{layoutOf, blockAt, stored, neighbour, gathered, turn, firstTurns}
 use Rattle.macroblock4.specs.Code.{levelsFrom, samplesFrom, seen, recordFrom4}
 use Rattle.macroblock4.specs.Content.{modeHolds, rescaledIn, rangeHolds, firstMode, firstRange, contentTests4}
@@ -57,11 +58,11 @@ abbrev answered : (width height m : ℕ) → List ℕ → List ℕ
 answered width height m part = number (chain (contentTests4 (layoutOf width height) m part)) ∷ place (chain (contentTests4 (layoutOf width height) m part)) ∷ []
 
 pub modes-before-ranges : answered 1 1 0 (oneLevel 51 146 127 255) ≡ 3 ∷ 15 ∷ []
-unfolding firstMode firstRange modeHolds rangeHolds rescaledIn rescaled inPlaces inZigzag scaledBy levelsIn tab first firstOutside inside permitted bitOf flagsOf presentAt present orderAt blockColumn blockRow columnIn rowIn tablePlace order.blockIn blockTable
+unfolding firstMode firstRange modeHolds rangeHolds rescaledIn rescaled inPlaces inZigzag scaledBy levelsIn tab first firstOutside inside permitted bitOf flagsOf presentAt present sameSlice orderAt blockColumn blockRow columnIn rowIn tablePlace order.blockIn blockTable
 modes-before-ranges = refl
 
 pub place-by-sixteen : answered 2 2 3 (oneLevel 51 146 127 255) ≡ 3 ∷ 63 ∷ []
-unfolding firstMode firstRange modeHolds rangeHolds rescaledIn rescaled inPlaces inZigzag scaledBy levelsIn tab first firstOutside inside permitted bitOf flagsOf presentAt present orderAt blockColumn blockRow columnIn rowIn tablePlace order.blockIn blockTable
+unfolding firstMode firstRange modeHolds rangeHolds rescaledIn rescaled inPlaces inZigzag scaledBy levelsIn tab first firstOutside inside permitted bitOf flagsOf presentAt present sameSlice orderAt blockColumn blockRow columnIn rowIn tablePlace order.blockIn blockTable
 place-by-sixteen = refl
 
 -- two macroblocks of equal samples: sixteen rows of 16 samples and 16 others
@@ -72,11 +73,11 @@ abbrev pub beside : (left right : ℕ) → List ℕ
 beside left right = tab 512 (besideAt left right)
 
 pub rebuilt-neighbours : getD (recordFrom4 (layoutOf 2 1) 28 (beside 138 139) 1 (beside 136 0)) 14 0 ≡ 1
-unfolding recordFrom4 recordOf recordWith summed packed levelBytes levelsFrom seen gathered neighbour turn firstTurns covers present presentAt flagsOf orderAt blockColumn blockRow columnIn rowIn tablePlace order.blockIn blockTable first fold parts tab grid total bitOf predicted vertical horizontal downLeft downRight verticalRight verticalLeft horizontalUp sad bestOf chosen residualOf forward quantized levelBy inZigzag blockAt samplesFrom stored stores rebuiltSamples added clip inverse rescaled scaledBy inPlaces
+unfolding recordFrom4 recordOf recordWith summed packed levelBytes levelsFrom seen gathered neighbour turn firstTurns covers present sameSlice presentAt flagsOf orderAt blockColumn blockRow columnIn rowIn tablePlace order.blockIn blockTable first fold parts tab grid total bitOf predicted vertical horizontal downLeft downRight verticalRight verticalLeft horizontalUp sad bestOf chosen residualOf forward quantized levelBy inZigzag blockAt samplesFrom stored stores rebuiltSamples added clip inverse rescaled scaledBy inPlaces
 rebuilt-neighbours = refl
 
 -- macroblock 1 beside samples of 128: of its own samples 128 the first level is 0, of 138 it is 2
 pub own-samples : (getD (recordFrom4 (layoutOf 2 1) 28 (beside 128 128) 1 (beside 128 0)) 14 0 ≡ 0)
     × (getD (recordFrom4 (layoutOf 2 1) 28 (beside 128 138) 1 (beside 128 0)) 14 0 ≡ 2)
-unfolding recordFrom4 recordOf recordWith summed packed levelBytes levelsFrom seen gathered neighbour turn firstTurns covers present presentAt flagsOf orderAt blockColumn blockRow columnIn rowIn tablePlace order.blockIn blockTable first fold parts tab grid total bitOf predicted vertical horizontal downLeft downRight verticalRight verticalLeft horizontalUp sad bestOf chosen residualOf forward quantized levelBy inZigzag blockAt samplesFrom stored stores rebuiltSamples added clip inverse rescaled scaledBy inPlaces
+unfolding recordFrom4 recordOf recordWith summed packed levelBytes levelsFrom seen gathered neighbour turn firstTurns covers present sameSlice presentAt flagsOf orderAt blockColumn blockRow columnIn rowIn tablePlace order.blockIn blockTable first fold parts tab grid total bitOf predicted vertical horizontal downLeft downRight verticalRight verticalLeft horizontalUp sad bestOf chosen residualOf forward quantized levelBy inZigzag blockAt samplesFrom stored stores rebuiltSamples added clip inverse rescaled scaledBy inPlaces
 own-samples = (refl, refl)

@@ -1,13 +1,16 @@
+pub mod Alone
 pub mod Around
 pub mod Blocks
 pub mod Byte
 pub mod Bytes
 pub mod Macroblocks
+pub mod OneSlice
 pub mod Owner
 pub mod Plane
 pub mod Presence
 pub mod Round
 pub mod Rows
+pub mod Slices
 pub mod Start
 pub mod Steps
 pub mod Unique

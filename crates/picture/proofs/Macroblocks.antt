@@ -3,14 +3,14 @@
 --     present-by           a sample inside the picture is present if its macroblock is, or, in the own macroblock, if its 4x4 block comes earlier
 --     present-outside      the same for a sample of another macroblock
 --     present-first        and for the block of 16 by 16: exactly if its macroblock is
---     before-is            a macroblock that is present comes before
+--     before-is, slice-is     a macroblock that is present comes before, and is in the same slice
 --     SeenBy, SeenFrom: seen-from, seen-before     the places that a block may see, and those that a macroblock may see: of the macroblocks
 --                          at the left, above left, above and above right that are present
 --     neighbour-seen       a present neighbour of a block of n by n is such a place
 --     beside-is            which macroblocks these are: left, above left, above, above right
 -- Assumes nothing.
 use mathlib.Core.Path.{_≡_, refl, sym, ap, _∙_}
-use mathlib.Core.Bool.{Bool, true, false, cond, _&&_}
+use mathlib.Core.Bool.{Bool, true, false, cond, _&&_, and-true}
 use mathlib.Core.Logic.{inl, inr}
 use Prim.Native.Nat.{ℕ, _+_, _*_, _-_, _/_, _%_, _<_, _≤_}
 use native.Mathlib.Nat.{mod-lt, div-add-mod'}
@@ -23,10 +23,11 @@ use Rattle.lists.proofs.Every.{both-true, same-test}
 use Rattle.picture.specs.declared.Layout.{Layout}
 use Rattle.picture.specs.Order.{Starts, blockIn, columnIn, rowIn, blockColumn, blockRow, orderOf, orderAt, macroblockAt}
 use Rattle.picture.specs.Plane.{stride}
-use Rattle.picture.specs.Presence.{insidePlane, insidePicture, macroblockPresent, touches, present, neighbourColumn, neighbourRow, presentAt}
+use Rattle.picture.specs.Presence.{insidePlane, insidePicture, sliceOf, sameSlice, macroblockPresent, touches, present, neighbourColumn, neighbourRow, presentAt}
 use Rattle.picture.proofs.Blocks.{stands}
 use Rattle.picture.proofs.Owner.{ownerOf, macroblockOwning, order-lt, order-macroblock}
 use Rattle.picture.proofs.Presence.{ltb-shift, present-is}
+use Rattle.picture.proofs.Slices.{same-self, same-slice-is}
 
 -- what it means that a sample lies inside, from a margin of one
 pub record InsidePlane (s : ℕ) (l : Layout) (X Y : ℕ) : Type 0 where
@@ -43,25 +44,31 @@ inside-plane s l X Y e =
     record { left = ltb-true _ _ (x .0); right = leb-true _ _ (x .1); up = ltb-true _ _ (y .0); down = leb-true _ _ (y .1) }
 
 earlier : (l : Layout) (m b x y : ℕ) → b < 16 → x < 16 * l .width → y < 16 * l .height
-    → ltb (orderAt l x y) (orderOf m b) ≡ cond (eqb (macroblockAt l x y) m) (ltb (blockIn (x / 4 % 4) (y / 4 % 4)) b) (macroblockPresent l m (macroblockAt l x y))
+    → (ltb (orderAt l x y) (orderOf m b) && sameSlice l (orderOf m b / 16) (macroblockAt l x y))
+    ≡ cond (eqb (macroblockAt l x y) m) (ltb (blockIn (x / 4 % 4) (y / 4 % 4)) b) (macroblockPresent l m (macroblockAt l x y))
 unfolding macroblockPresent orderAt
-earlier l m b x y hb hx hy = by-case (eqb (macroblockAt l x y) m) refl
+earlier l m b x y hb hx hy =
+    let z : (16 * m + b) / 16 ≡ m = omega arith in
+    rw z (by-case (eqb (macroblockAt l x y) m) refl)
   where
     o : (16 * macroblockAt l x y ≤ orderAt l x y) × (orderAt l x y < 16 * macroblockAt l x y + 16)
     o = order-macroblock l x y
 
     by-case : (t : Bool) → eqb (macroblockAt l x y) m ≡ t
-        → ltb (orderAt l x y) (orderOf m b) ≡ cond t (ltb (blockIn (x / 4 % 4) (y / 4 % 4)) b) (ltb (macroblockAt l x y) (l .width * l .height) && ltb (macroblockAt l x y) m)
-    by-case true e = rw (eqb-true (macroblockAt l x y) m e) (ltb-shift (16 * m) (blockIn (x / 4 % 4) (y / 4 % 4)) b)
+        → (ltb (orderAt l x y) (orderOf m b) && sameSlice l m (macroblockAt l x y))
+        ≡ cond t (ltb (blockIn (x / 4 % 4) (y / 4 % 4)) b) (ltb (macroblockAt l x y) (l .width * l .height) && ltb (macroblockAt l x y) m && sameSlice l m (macroblockAt l x y))
+    by-case true e = rw (eqb-true (macroblockAt l x y) m e, same-self l m, and-true) (ltb-shift (16 * m) (blockIn (x / 4 % 4) (y / 4 % 4)) b)
     by-case false e =
         let n = eqb-false (macroblockAt l x y) m e in
+        let comes : ltb (orderAt l x y) (orderOf m b) ≡ (ltb (macroblockAt l x y) (l .width * l .height) && ltb (macroblockAt l x y) m) =
         same-test _ _
         (λ q.
         let h : orderAt l x y < orderOf m b = ltb-true _ _ q in
         rw (lt-ltb (macroblockAt l x y) (l .width * l .height) (omega (arith, o .0, order-lt l x y hx hy)), lt-ltb (macroblockAt l x y) m (omega (arith, o .0, n))))
         (λ q.
         let k : macroblockAt l x y < m = ltb-true _ _ (both-true (ltb (macroblockAt l x y) (l .width * l .height)) (ltb (macroblockAt l x y) m) q .1) in
-        lt-ltb (orderAt l x y) (orderOf m b) (omega (arith, o .1)))
+        lt-ltb (orderAt l x y) (orderOf m b) (omega (arith, o .1))) in
+        ap (λ (t : Bool). t && sameSlice l m (macroblockAt l x y)) comes
 
 pub present-by : (l : Layout) (m b X Y : ℕ) → b < 16
     → present l (orderOf m b) X Y
@@ -71,7 +78,7 @@ unfolding present
 present-by l m b X Y hb = by-case (insidePicture l X Y) refl
   where
     by-case : (t : Bool) → insidePicture l X Y ≡ t
-        → (t && ltb (orderAt l (X - 1) (Y - 1)) (orderOf m b))
+        → (t && ltb (orderAt l (X - 1) (Y - 1)) (orderOf m b) && sameSlice l (orderOf m b / 16) (macroblockAt l (X - 1) (Y - 1)))
         ≡ (t && cond (eqb (macroblockAt l (X - 1) (Y - 1)) m) (ltb (blockIn ((X - 1) / 4 % 4) ((Y - 1) / 4 % 4)) b) (macroblockPresent l m (macroblockAt l (X - 1) (Y - 1))))
     by-case false e = refl
     by-case true e =
@@ -85,7 +92,12 @@ present-outside l m b X Y hb inside other = present-by l m b X Y hb ∙ rw (insi
 -- a macroblock that is present comes before
 pub before-is : (l : Layout) (m k : ℕ) → macroblockPresent l m k ≡ true → k < m
 unfolding macroblockPresent
-before-is l m k e = ltb-true k m (both-true (ltb k (l .width * l .height)) (ltb k m) e .1)
+before-is l m k e = ltb-true k m (both-true (ltb k (l .width * l .height)) (ltb k m) (both-true (ltb k (l .width * l .height) && ltb k m) (sameSlice l m k) e .0) .1)
+
+-- and is in the same slice
+pub slice-is : (l : Layout) (m k : ℕ) → macroblockPresent l m k ≡ true → sliceOf l k ≡ sliceOf l m
+unfolding macroblockPresent
+slice-is l m k e = same-slice-is l m k (both-true (ltb k (l .width * l .height) && ltb k m) (sameSlice l m k) e .1)
 
 -- a macroblock is not present to itself
 own-missing : (l : Layout) (m k : ℕ) → k ≡ m → macroblockPresent l m k ≡ false

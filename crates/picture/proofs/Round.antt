@@ -1,6 +1,6 @@
 -- What stands round a macroblock of s by s samples.
 --     whole-owned, in-whole, room-whole     its samples are of macroblock m, and no others; they lie in the plane
---     round-above, round-left, round-corner     each group of neighbours is present together: by the macroblock's row and column
+--     round-above, round-left, round-corner     each group of neighbours is present together: by the macroblock's row in its slice and its column
 --     first-above, first-left, first-corner     so are those of its first 4x4 block, which the code asks for
 --     flags-round-by, flags-round-tell     the flags byte: the bit of a neighbour's group says whether the neighbour is present
 --     length-gathered-round, gathered-round-bytes, gathered-round-missing     the gathered list; where one is missing it says nothing of the plane
@@ -8,12 +8,12 @@
 --     round-outside            in luma the neighbours are present as document 01 says of the block of 16 by 16
 -- Assumes nothing.
 use mathlib.Core.Path.{_≡_, refl, sym, ap, _∙_}
-use mathlib.Core.Bool.{Bool, true, false, cond, _&&_}
+use mathlib.Core.Bool.{Bool, true, false, cond, _&&_, and-true, and-false}
 use mathlib.Core.List.{List}
 use Prim.Native.Nat.{ℕ, zero, suc, _+_, _*_, _-_, _/_, _%_, _^_, _<_, _≤_}
 use native.Mathlib.Nat.{mod-lt, mul-comm, mul-le-mul-left, mul-le-mul-right, mul-suc, div-add-mod, div-add-mod', div-lt-iff-lt-mul, le-div-iff-mul-le}
 use native.Mathlib.Omega.{arith}
-use borrow.Author.Tests.{ltb-true, ltb-false, leb-true, leb-false, le-leb, lt-leb, lt-ltb, le-ltb, eqb-true, eqb-false}
+use borrow.Author.Tests.{ltb-true, ltb-false, leb-true, leb-false, le-leb, lt-leb, lt-ltb, le-ltb, eq-eqb, eqb-true, eqb-false}
 use lib.Arith.{digits-lt, digits-div, digits-mod}
 use lib.Dec.{eqb, leb, ltb}
 use lib.ListN.{length, getD}
@@ -25,12 +25,15 @@ use Rattle.lists.proofs.Tab.{length-tab, getD-tab, tab-same}
 use Rattle.picture.specs.declared.Layout.{Layout}
 use Rattle.picture.specs.Order.{countOf, Among, blockTable, tablePlace, columnIn, rowIn, blockColumn, blockRow, orderOf, macroblockIn}
 use Rattle.picture.specs.Plane.{stride, planeLength, sampleAt}
-use Rattle.picture.specs.Presence.{insidePlane, insidePicture, macroblockPresent, touches, present, neighbourColumn, neighbourRow, presentAt}
+use Rattle.picture.specs.Presence.{insidePlane, insidePicture, sliceOf, sameSlice, macroblockPresent, touches, present, neighbourColumn, neighbourRow, presentAt}
+use Rattle.picture.specs.Reach.{rowInSlice}
 use Rattle.picture.specs.Whole.{wholeColumn, wholeRow, roundColumn, roundRow, presentRound, flagsRound, roundSample, gatheredRound}
-use Rattle.picture.proofs.Byte.{byteBy, bits, among-four, group-above, left-is, corner-is}
+use Rattle.picture.proofs.Byte.{byteBy, bits, among-four, above-is, left-is, corner-is}
 use Rattle.picture.proofs.Macroblocks.{inside-plane, present-first, touch-digits}
 use Rattle.picture.proofs.Owner.{Within}
 use Rattle.picture.proofs.Plane.{Room}
+use Rattle.picture.proofs.Presence.{row-up}
+use Rattle.picture.proofs.Slices.{slice-row, slice-up}
 use Rattle.picture.proofs.Steps.{LooksFrom}
 
 -- ---- the macroblock in the plane
@@ -72,8 +75,8 @@ module _ (l : Layout) (some : 0 < l .width) (m : ℕ) (among : m < countOf l) wh
 
   -- ---- which neighbours are present
 
-  -- a macroblock before this one is present to it
-  earlier-present : (k : ℕ) → k < m → macroblockPresent l m k ≡ true
+  -- a macroblock before this one is present to it where it is in the same slice
+  earlier-present : (k : ℕ) → k < m → macroblockPresent l m k ≡ sameSlice l m k
   unfolding macroblockPresent
   earlier-present k h = rw (lt-ltb k (l .width * l .height) (omega arith), lt-ltb k m h)
 
@@ -89,9 +92,10 @@ module _ (l : Layout) (some : 0 < l .width) (m : ℕ) (among : m < countOf l) wh
     abbrev shown : (X Y : ℕ) → Bool
     shown X Y = insidePlane s l X Y && macroblockPresent l m (macroblockIn s l (X - 1) (Y - 1))
 
-    shown-inside : (X Y : ℕ) → 0 < X → X ≤ s * l .width → 0 < Y → Y ≤ s * l .height → macroblockIn s l (X - 1) (Y - 1) < m → shown X Y ≡ true
+    shown-inside : (X Y : ℕ) → 0 < X → X ≤ s * l .width → 0 < Y → Y ≤ s * l .height → macroblockIn s l (X - 1) (Y - 1) < m
+        → shown X Y ≡ sameSlice l m (macroblockIn s l (X - 1) (Y - 1))
     shown-inside X Y hx wx hy wy before =
-        rw (lt-ltb 0 X hx, le-leb X (s * l .width) wx, lt-ltb 0 Y hy, le-leb Y (s * l .height) wy, earlier-present (macroblockIn s l (X - 1) (Y - 1)) before)
+        rw (lt-ltb 0 X hx, le-leb X (s * l .width) wx, lt-ltb 0 Y hy, le-leb Y (s * l .height) wy) (earlier-present (macroblockIn s l (X - 1) (Y - 1)) before)
 
     not-left : (X Y : ℕ) → X ≡ 0 → shown X Y ≡ false
     not-left X Y e = rw (le-ltb 0 X (omega arith))
@@ -117,86 +121,111 @@ module _ (l : Layout) (some : 0 < l .width) (m : ℕ) (among : m < countOf l) wh
     cell-lt : (n X : ℕ) → X < s * n → X / s < n
     cell-lt n X h = div-lt-iff-lt-mul small .1 (omega (arith, mul-comm s n))
 
-    -- each group is present together
-    pub round-above : (k : ℕ) → 0 < k → k ≤ s → presentRound s l m k ≡ ltb 0 (m / l .width)
+    -- the row of samples above is of the row of macroblocks above
+    cell-up : (n : ℕ) → 0 < n → (s * n - 1) / s ≡ n - 1
+    cell-up n h =
+        let z : s * n - 1 ≡ (n - 1) * s + (s - 1) = omega (arith, row-up n s h, mul-comm s n) in
+        ap (λ (k : ℕ). k / s) z ∙ digits-div (n - 1) {m = s} {r = s - 1} (omega arith)
+
+    -- each group is present together: those at the left
+    pub round-left : (k : ℕ) → s < k → k < 2 * s + 1 → presentRound s l m k ≡ ltb 0 (m % l .width)
     unfolding presentRound
-    round-above k h1 h2 = rw (le-leb k s h2) (by-case (ltb 0 (m / l .width)) refl)
+    round-left k h1 h2 = rw (lt-leb k s h1) (by-case (ltb 0 (m % l .width)) refl)
       where
-        X : ℕ
-        X = s * (m % l .width) + k
+        Y : ℕ
+        Y = s * (m / l .width) + (k - s)
 
-        by-case : (t : Bool) → ltb 0 (m / l .width) ≡ t → shown X (s * (m / l .width)) ≡ t
-        by-case true e =
-            let r = scaled (m / l .width) (ltb-true 0 (m / l .width) e) in
-            shown-inside X (s * (m / l .width)) (omega arith) (omega (arith, column-room)) (omega (arith, r)) (omega (arith, row-room))
-            (row-before ((s * (m / l .width) - 1) / s) ((X - 1) / s) (cell-lt (m / l .width) (s * (m / l .width) - 1) (omega (arith, r))) (cell-lt (l .width) (X - 1) (omega (arith, column-room))))
-        by-case false e =
-            let z : m / l .width ≡ 0 = omega (arith, ltb-false 0 (m / l .width) e) in
-            not-above X (s * (m / l .width)) (rw z (omega arith))
+        row : (Y - 1) / s ≡ m / l .width
+        row =
+            let z : Y - 1 ≡ m / l .width * s + (k - s - 1) = omega (arith, mul-comm s (m / l .width)) in
+            ap (λ (n : ℕ). n / s) z ∙ digits-div (m / l .width) {m = s} {r = k - s - 1} (omega arith)
 
-    -- a neighbour in the column at the left: the corner, or one at the left
-    beside : (Y : ℕ) → Y ≤ s * (m / l .width) + s → (0 < m % l .width → 0 < Y) → shown (s * (m % l .width)) Y ≡ ltb 0 (m % l .width)
-    beside Y wy hy = by-case (ltb 0 (m % l .width)) refl
-      where
         by-case : (t : Bool) → ltb 0 (m % l .width) ≡ t → shown (s * (m % l .width)) Y ≡ t
         by-case true e =
-            let c = ltb-true 0 (m % l .width) e in
-            let r = scaled (m % l .width) c in
-            let q : (Y - 1) / s < m / l .width + 1 = cell-lt (m / l .width + 1) (Y - 1) (omega (arith, hy c, mul-suc s (m / l .width))) in
-            shown-inside (s * (m % l .width)) Y (omega (arith, r)) (omega (arith, column-room)) (hy c) (omega (arith, row-room))
-            (column-before ((Y - 1) / s) ((s * (m % l .width) - 1) / s) (omega (arith, q)) (cell-lt (m % l .width) (s * (m % l .width) - 1) (omega (arith, r))))
+            let r = scaled (m % l .width) (ltb-true 0 (m % l .width) e) in
+            let inner : (s * (m % l .width) - 1) / s < m % l .width = cell-lt (m % l .width) (s * (m % l .width) - 1) (omega (arith, r)) in
+            shown-inside (s * (m % l .width)) Y (omega (arith, r)) (omega (arith, column-room)) (omega arith) (omega (arith, row-room))
+            (column-before ((Y - 1) / s) ((s * (m % l .width) - 1) / s) (omega (arith, row)) inner)
+            ∙ slice-row l m ((s * (m % l .width) - 1) / s) ((Y - 1) / s) (omega (arith, mod-lt m some))
+            ∙ eq-eqb ((Y - 1) / s / l .rows) (sliceOf l m) (ap (λ (n : ℕ). n / l .rows) row)
         by-case false e =
             let z : m % l .width ≡ 0 = omega (arith, ltb-false 0 (m % l .width) e) in
             not-left (s * (m % l .width)) Y (rw z (omega arith))
 
-    pub round-left : (k : ℕ) → s < k → k < 2 * s + 1 → presentRound s l m k ≡ ltb 0 (m % l .width)
-    unfolding presentRound
-    round-left k h1 h2 = rw (lt-leb k s h1) (beside (s * (m / l .width) + (k - s)) (omega arith) (λ c. omega arith))
+    -- those above and the corner, where a slice has rows
+    module _ (rows : 0 < l .rows) where
+      -- a neighbour in the row above, in the picture's columns
+      over : (X : ℕ) → 0 < X → X ≤ s * l .width → shown X (s * (m / l .width)) ≡ ltb 0 (m / l .width % l .rows)
+      over X hx wx = by-case (ltb 0 (m / l .width)) refl
+        where
+          column : (X - 1) / s < l .width
+          column = cell-lt (l .width) (X - 1) (omega arith)
 
-    pub round-corner : presentRound s l m 0 ≡ (ltb 0 (m / l .width) && ltb 0 (m % l .width))
-    unfolding presentRound
-    round-corner =
-        let z : s * (m % l .width) + 0 ≡ s * (m % l .width) = omega arith in
-        rw (le-leb 0 s (omega arith), z) (by-case (ltb 0 (m / l .width)) refl)
-      where
-        by-case : (t : Bool) → ltb 0 (m / l .width) ≡ t → shown (s * (m % l .width)) (s * (m / l .width)) ≡ (t && ltb 0 (m % l .width))
-        by-case true e = beside (s * (m / l .width)) (omega arith) (λ c. omega (arith, scaled (m / l .width) (ltb-true 0 (m / l .width) e)))
-        by-case false e =
-            let z : m / l .width ≡ 0 = omega (arith, ltb-false 0 (m / l .width) e) in
-            not-above (s * (m % l .width)) (s * (m / l .width)) (rw z (omega arith))
+          by-case : (t : Bool) → ltb 0 (m / l .width) ≡ t → shown X (s * (m / l .width)) ≡ ltb 0 (m / l .width % l .rows)
+          by-case true e =
+              let some-rows = ltb-true 0 (m / l .width) e in
+              let r = scaled (m / l .width) some-rows in
+              let before = row-before ((s * (m / l .width) - 1) / s) ((X - 1) / s) (cell-lt (m / l .width) (s * (m / l .width) - 1) (omega (arith, r))) column in
+              shown-inside X (s * (m / l .width)) hx wx (omega (arith, r)) (omega (arith, row-room)) before
+              ∙ slice-row l m ((X - 1) / s) ((s * (m / l .width) - 1) / s) column
+              ∙ ap (λ (k : ℕ). eqb (k / l .rows) (sliceOf l m)) (cell-up (m / l .width) some-rows)
+              ∙ slice-up (l .rows) (m / l .width) rows some-rows
+          by-case false e =
+              let z : m / l .width ≡ 0 = omega (arith, ltb-false 0 (m / l .width) e) in
+              not-above X (s * (m / l .width)) (rw z (omega arith))
+              ∙ sym (le-ltb 0 (m / l .width % l .rows) (omega (arith, div-add-mod' (m / l .width) (l .rows))))
 
-    -- ---- the flags byte
+      pub round-above : (k : ℕ) → 0 < k → k ≤ s → presentRound s l m k ≡ ltb 0 (m / l .width % l .rows)
+      unfolding presentRound
+      round-above k h1 h2 = rw (le-leb k s h2) (over (s * (m % l .width) + k) (omega arith) (omega (arith, column-room)))
 
-    -- the bit of the group that neighbour k is in: bit 0 those above, bit 1 those at the left, bit 2 the corner
-    abbrev pub bitRound : ℕ → ℕ
-    bitRound k = cond (eqb k 0) 2 (cond (leb k s) 0 1)
+      pub round-corner : presentRound s l m 0 ≡ (ltb 0 (m / l .width % l .rows) && ltb 0 (m % l .width))
+      unfolding presentRound
+      round-corner =
+          let z : s * (m % l .width) + 0 ≡ s * (m % l .width) = omega arith in
+          rw (le-leb 0 s (omega arith), z) (by-case (ltb 0 (m % l .width)) refl)
+        where
+          by-case : (t : Bool) → ltb 0 (m % l .width) ≡ t → shown (s * (m % l .width)) (s * (m / l .width)) ≡ (ltb 0 (m / l .width % l .rows) && t)
+          by-case true e =
+              over (s * (m % l .width)) (omega (arith, scaled (m % l .width) (ltb-true 0 (m % l .width) e))) (omega (arith, column-room))
+              ∙ sym (and-true (ltb 0 (m / l .width % l .rows)))
+          by-case false e =
+              let z : m % l .width ≡ 0 = omega (arith, ltb-false 0 (m % l .width) e) in
+              not-left (s * (m % l .width)) (s * (m / l .width)) (rw z (omega arith))
+              ∙ sym (and-false (ltb 0 (m / l .width % l .rows)))
 
-    abbrev A : Bool
-    A = ltb 0 (m / l .width)
+      -- ---- the flags byte
 
-    abbrev L : Bool
-    L = ltb 0 (m % l .width)
+      -- the bit of the group that neighbour k is in: bit 0 those above, bit 1 those at the left, bit 2 the corner
+      abbrev pub bitRound : ℕ → ℕ
+      bitRound k = cond (eqb k 0) 2 (cond (leb k s) 0 1)
 
-    pub flags-round-by : flagsRound s l m ≡ byteBy A L (A && L) false
-    unfolding flagsRound
-    flags-round-by =
-        rw (
-          every-all s (λ i. presentRound s l m (1 + i)) A small (λ k h. round-above (1 + k) (omega arith) (omega arith)),
-          every-all s (λ i. presentRound s l m (s + 1 + i)) L small (λ k h. round-left (s + 1 + k) (omega arith) (omega arith)),
-          round-corner,
-        )
-        (omega arith)
+      abbrev A : Bool
+      A = ltb 0 (m / l .width % l .rows)
 
-    pub flags-round-tell : (k : ℕ) → k < 2 * s + 1 → eqb (flagsRound s l m / 2 ^ bitRound k % 2) 1 ≡ presentRound s l m k
-    flags-round-tell k h = rw flags-round-by (by-case (eqb k 0) (leb k s) refl refl)
-      where
-        q : (eqb (byteBy A L (A && L) false / 2 ^ 0 % 2) 1 ≡ A) × (eqb (byteBy A L (A && L) false / 2 ^ 1 % 2) 1 ≡ L) × (eqb (byteBy A L (A && L) false / 2 ^ 2 % 2) 1 ≡ (A && L)) × (eqb (byteBy A L (A && L) false / 2 ^ 3 % 2) 1 ≡ false)
-        q = bits A L (A && L) false
+      abbrev L : Bool
+      L = ltb 0 (m % l .width)
 
-        by-case : (b c : Bool) → eqb k 0 ≡ b → leb k s ≡ c → eqb (byteBy A L (A && L) false / 2 ^ cond b 2 (cond c 0 1) % 2) 1 ≡ presentRound s l m k
-        by-case true c e f = q .2 ∙ sym round-corner ∙ ap (presentRound s l m) (sym (eqb-true k 0 e))
-        by-case false true e f = q .0 ∙ sym (round-above k (let d = eqb-false k 0 e in omega arith) (leb-true k s f))
-        by-case false false e f = q .1 ∙ sym (round-left k (leb-false k s f) h)
+      pub flags-round-by : flagsRound s l m ≡ byteBy A L (A && L) false
+      unfolding flagsRound
+      flags-round-by =
+          rw (
+            every-all s (λ i. presentRound s l m (1 + i)) A small (λ k h. round-above (1 + k) (omega arith) (omega arith)),
+            every-all s (λ i. presentRound s l m (s + 1 + i)) L small (λ k h. round-left (s + 1 + k) (omega arith) (omega arith)),
+            round-corner,
+          )
+          (omega arith)
+
+      pub flags-round-tell : (k : ℕ) → k < 2 * s + 1 → eqb (flagsRound s l m / 2 ^ bitRound k % 2) 1 ≡ presentRound s l m k
+      flags-round-tell k h = rw flags-round-by (by-case (eqb k 0) (leb k s) refl refl)
+        where
+          q : (eqb (byteBy A L (A && L) false / 2 ^ 0 % 2) 1 ≡ A) × (eqb (byteBy A L (A && L) false / 2 ^ 1 % 2) 1 ≡ L) × (eqb (byteBy A L (A && L) false / 2 ^ 2 % 2) 1 ≡ (A && L)) × (eqb (byteBy A L (A && L) false / 2 ^ 3 % 2) 1 ≡ false)
+          q = bits A L (A && L) false
+
+          by-case : (b c : Bool) → eqb k 0 ≡ b → leb k s ≡ c → eqb (byteBy A L (A && L) false / 2 ^ cond b 2 (cond c 0 1) % 2) 1 ≡ presentRound s l m k
+          by-case true c e f = q .2 ∙ sym round-corner ∙ ap (presentRound s l m) (sym (eqb-true k 0 e))
+          by-case false true e f = q .0 ∙ sym (round-above k (let d = eqb-false k 0 e in omega arith) (leb-true k s f))
+          by-case false false e f = q .1 ∙ sym (round-left k (leb-false k s f) h)
 
     -- ---- the gathered neighbours
 
@@ -295,18 +324,21 @@ first-row : (l : Layout) (m : ℕ) → blockRow l m 0 ≡ 16 * (m / l .width)
 unfolding blockRow
 first-row l m = rw (first-place .1) (omega arith)
 
+first-row-in-slice : (l : Layout) (m : ℕ) → rowInSlice l m 0 ≡ 16 * (m / l .width % l .rows)
+first-row-in-slice l m = rw (first-place .1) (omega arith)
+
 some-of : (n : ℕ) → ltb 0 (16 * n) ≡ ltb 0 n
 some-of n =
     same-test (ltb 0 (16 * n)) (ltb 0 n) (λ e. lt-ltb 0 n (let h = ltb-true 0 (16 * n) e in omega arith)) (λ e. lt-ltb 0 (16 * n) (let h = ltb-true 0 n e in omega arith))
 
 module _ {l : Layout} {m : ℕ} (a : Among l m 0) where
-  pub first-above : presentAt 4 l m 0 1 ≡ ltb 0 (m / l .width)
-  first-above = group-above (among-four a) 1 (omega arith) (omega arith) ∙ ap (ltb 0) (first-row l m) ∙ some-of (m / l .width)
+  pub first-above : presentAt 4 l m 0 1 ≡ ltb 0 (m / l .width % l .rows)
+  first-above = above-is (among-four a) ∙ ap (ltb 0) (first-row-in-slice l m) ∙ some-of (m / l .width % l .rows)
 
   pub first-left : presentAt 4 l m 0 9 ≡ ltb 0 (m % l .width)
   first-left = left-is (among-four a) ∙ ap (ltb 0) (first-column l m) ∙ some-of (m % l .width)
 
-  pub first-corner : presentAt 4 l m 0 0 ≡ (ltb 0 (m / l .width) && ltb 0 (m % l .width))
+  pub first-corner : presentAt 4 l m 0 0 ≡ (ltb 0 (m / l .width % l .rows) && ltb 0 (m % l .width))
   first-corner = corner-is (among-four a) ∙ rw (first-above, first-left)
 
 -- the number of neighbour k among those of the block of 16 by 16: there the upper right comes between those above and those at the left

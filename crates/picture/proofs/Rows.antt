@@ -24,6 +24,7 @@ use Rattle.picture.specs.Order.{Among, countOf}
 use Rattle.picture.specs.Plane.{stride, planeLength}
 use Rattle.picture.specs.Reach.{Reaches}
 use Rattle.picture.specs.Whole.{wholeColumn, wholeRow, roundColumn, roundRow, presentRound, roundSample}
+use Rattle.picture.proofs.Byte.{in-slice}
 use Rattle.picture.proofs.Plane.{within, samples-fit, from-first}
 use Rattle.picture.proofs.Presence.{row-up}
 use Rattle.picture.proofs.Round.{room-whole, round-above, round-left, round-corner}
@@ -102,15 +103,17 @@ module _ {l : Layout} {m : ℕ} (a : Among l m 0) (s : ℕ) (small : 0 < s) (mos
 
   -- ---- the neighbours
 
-  -- there is a row of samples above, a column at the left
+  -- there is a row of samples above, in the slice, a column at the left
   abbrev up : Bool
-  up = ltb 0 (m / l .width)
+  up = ltb 0 (m / l .width % l .rows)
 
   abbrev aside : Bool
   aside = ltb 0 (m % l .width)
 
   row-above : up ≡ true → wholeRow s l m * stride s l ≡ (wholeRow s l m - 1) * stride s l + stride s l
-  row-above e = row-up (wholeRow s l m) (stride s l) (omega (arith, mul-lt-mul-of-pos-left {m = 0} {n = m / l .width} {k = s} (ltb-true 0 (m / l .width) e) small))
+  row-above e =
+      let h : 0 < m / l .width = omega (arith, ltb-true 0 (m / l .width % l .rows) e, in-slice a (l .rows)) in
+      row-up (wholeRow s l m) (stride s l) (omega (arith, mul-lt-mul-of-pos-left {m = 0} {n = m / l .width} {k = s} h small))
 
   column-left : aside ≡ true → 0 < wholeColumn s l m
   column-left e = omega (arith, mul-lt-mul-of-pos-left {m = 0} {n = m % l .width} {k = s} (ltb-true 0 (m % l .width) e) small)
@@ -145,7 +148,7 @@ module _ {l : Layout} {m : ℕ} (a : Among l m 0) (s : ℕ) (small : 0 < s) (mos
     corner-place i h =
         let z : i ≡ 0 = omega arith in
         rw z (
-        by-place 0 (up && aside) _ (round-corner l (a .sound .some) m (a .macroblock) s small)
+        by-place 0 (up && aside) _ (round-corner l (a .sound .some) m (a .macroblock) s small (a .sound .rows))
         (λ e.
         let b = both-true up aside e in
         rw (le-leb 0 s (omega arith)) (omega (arith, row-above (b .0), column-left (b .1))))
@@ -153,7 +156,7 @@ module _ {l : Layout} {m : ℕ} (a : Among l m 0) (s : ℕ) (small : 0 < s) (mos
 
     above-place : (i : ℕ) → i < s → roundSample s l m plane (1 + i) ≡ cond up (getD plane (wholePlace + i * 1 - stride s l) 0) 0
     above-place i h =
-        by-place (1 + i) up _ (round-above l (a .sound .some) m (a .macroblock) s small (1 + i) (omega arith) (omega arith))
+        by-place (1 + i) up _ (round-above l (a .sound .some) m (a .macroblock) s small (a .sound .rows) (1 + i) (omega arith) (omega arith))
         (λ e. rw (le-leb (1 + i) s (omega arith)) (omega (arith, row-above e)))
 
     left-place : (i : ℕ) → i < s → roundSample s l m plane (1 + s + i) ≡ cond aside (getD plane (wholePlace + i * stride s l - 1) 0) 0

@@ -1,10 +1,11 @@
 -- A macroblock as one block of s by s samples, in a plane where a macroblock has so many.
---     length-whole-of, whole-back     how many samples are read; a stored macroblock is read back
+--     whole-back                      a stored macroblock is read back
 --     whole-kept, whole-stored        what stands in a plane with a macroblock stored: in its own places, and in the others
 --     whole-step                      its turn is a step of it
 --     whole-forgets, round-after      storing a macroblock forgets what another step of it did, and its neighbours are the same after that step
---     whole-bytes; MakesWholeBytes, whole-turn-bytes     its samples are bytes; a plane of bytes stays one
---     same-whole                      in luma: planes that have the same sixteen 4x4 blocks of a macroblock have the same samples of it
+--     MakesWholeBytes, whole-turn-bytes     a plane of bytes stays one
+--     same-blocks, same-whole         in luma: planes that agree at every sample of a macroblock have the same sixteen 4x4 blocks of it; planes that
+--                                     have these have the same samples of it in raster order
 -- Assumes nothing.
 use mathlib.Core.Path.{_≡_, refl, sym, ap, _∙_}
 use mathlib.Core.Bool.{Bool, true, false}
@@ -18,22 +19,18 @@ use lib.Dec.{eqb}
 use lib.ListN.{length, getD}
 use lib.Seq.{ext-getD}
 use Rattle.lists.specs.Bytes.{Bytes}
-use Rattle.lists.specs.Tab.{grid, inRaster}
-use Rattle.lists.proofs.Tab.{length-tab, grid-same, getD-grid}
+use Rattle.lists.proofs.Alike.{Agree}
+use Rattle.lists.proofs.Tab.{grid-same, getD-grid}
 use Rattle.picture.specs.declared.Layout.{Layout}
 use Rattle.picture.specs.Order.{countOf, columnIn, rowIn, blockIn, blockColumn, blockRow}
 use Rattle.picture.specs.Plane.{stride, planeLength, sampleAt, blockAt, blockOf}
 use Rattle.picture.specs.Whole.{wholeColumn, wholeRow, wholeOf, withWhole, gatheredRound, wholeTurn}
-use Rattle.picture.proofs.Blocks.{block-lt, table-permutes}
-use Rattle.picture.proofs.Bytes.{block-bytes, stored-bytes}
-use Rattle.picture.proofs.Owner.{macroblockOwning}
-use Rattle.picture.proofs.Plane.{length-stored, sample-stored, sample-off, read-stored}
+use Rattle.picture.proofs.Blocks.{block-lt, table-permutes, starts-four}
+use Rattle.picture.proofs.Bytes.{stored-bytes}
+use Rattle.picture.proofs.Owner.{own-order, order-macroblock, macroblockOwning}
+use Rattle.picture.proofs.Plane.{within, room-of, length-stored, sample-stored, sample-off, read-stored}
 use Rattle.picture.proofs.Round.{whole-owned, in-whole, room-whole, length-gathered-round, gathered-round-bytes, gathered-round-looks}
 use Rattle.picture.proofs.Steps.{MacroblockStep, wide, looks-after}
-
-pub length-whole-of : (s : ℕ) (l : Layout) (m : ℕ) (plane : List ℕ) → length (wholeOf s l m plane) ≡ s * s
-unfolding blockAt grid
-length-whole-of s l m plane = length-tab (s * s) (inRaster s (λ i j. sampleAt (stride s l) plane (wholeColumn s l m + i) (wholeRow s l m + j)))
 
 module _ (s : ℕ) (small : 0 < s) (l : Layout) (some : 0 < l .width) (m : ℕ) (among : m < countOf l) where
   module _ (block plane : List ℕ) where
@@ -101,9 +98,6 @@ module _ (s : ℕ) (small : 0 < s) (l : Layout) (some : 0 < l .width) (m : ℕ) 
 
 -- ---- bytes
 
-pub whole-bytes : (s : ℕ) (l : Layout) (m : ℕ) (plane : List ℕ) → Bytes plane → Bytes (wholeOf s l m plane)
-whole-bytes s l m plane bytes = block-bytes s (stride s l) (wholeColumn s l m) (wholeRow s l m) plane bytes
-
 -- of the neighbours of a macroblock, which are bytes, it makes bytes
 abbrev pub MakesWholeBytes : (s : ℕ) (make : ℕ → List ℕ → List ℕ) → Type 0
 MakesWholeBytes s make = (m : ℕ) (neighbours : List ℕ) → length neighbours ≡ 2 * s + 1 → Bytes neighbours → Bytes (make m neighbours)
@@ -129,6 +123,19 @@ by-fours l m i j plane hi hj =
     getD-grid 4 (λ u v. sampleAt (stride 16 l) plane (16 * (m % l .width) + 4 * columnIn b + u) (16 * (m / l .width) + 4 * rowIn b + v)) (i % 4) (j % 4) 0 (omega arith) (omega arith)
     ∙ rw (x, y)
     )
+
+pub same-blocks : (l : Layout) → 0 < l .width → (m : ℕ) → m < countOf l → (p q : List ℕ) → Agree 0 (planeLength 16 l) (λ i. macroblockOwning 16 l i ≡ m) p q
+    → (b : ℕ) → b < 16 → blockOf 4 l m b p ≡ blockOf 4 l m b q
+unfolding blockAt
+same-blocks l some m among p q alike b hb =
+    let room = room-of 4 l m b some among (starts-four b hb) in
+    grid-same 4 _ _
+    (λ i j hi hj.
+    let column : blockColumn l m b + i < 16 * l .width = omega (arith, room .wide) in
+    let own = own-order l m b i j hb hi hj in
+    let order = order-macroblock l (blockColumn l m b + i) (blockRow l m b + j) in
+    alike .agree ((blockRow l m b + j) * stride 16 l + (blockColumn l m b + i)) (within room i j hi hj)
+    (rw (digits-mod (blockRow l m b + j) column, digits-div (blockRow l m b + j) column) (omega (arith, own, order .0, order .1))))
 
 pub same-whole : (l : Layout) (m : ℕ) (p q : List ℕ) → ((b : ℕ) → b < 16 → blockOf 4 l m b p ≡ blockOf 4 l m b q) → wholeOf 16 l m p ≡ wholeOf 16 l m q
 unfolding blockAt

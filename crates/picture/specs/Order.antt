@@ -1,5 +1,4 @@
 -- The order in which macroblocks and blocks are coded, and where they stand (01, "Plane and record file"). Assumes nothing.
-use mathlib.Core.Path.{_≡_}
 use mathlib.Core.Bool.{Bool, _&&_, _||_}
 use mathlib.Core.List.{List, [], _∷_}
 use Prim.Native.Nat.{ℕ, _+_, _*_, _/_, _%_, _<_, _≤_}
@@ -88,12 +87,12 @@ macroblockAt l x y = macroblockIn 16 l x y
 unfoldable pub orderAt : Layout → (x y : ℕ) → ℕ
 orderAt l x y = orderOf (macroblockAt l x y) (blockIn (x / 4 % 4) (y / 4 % 4))
 
--- "Width and height are 1 to 128 macroblocks"; the picture is one slice
+-- "Width and height are 1 to 128 macroblocks"; a slice has rows: "n of 0 .. is SIZE" (02, request 02)
 pub record Sound (l : Layout) : Type 0 where
   pub some : 0 < l .width
   pub wide : l .width ≤ 128
   pub high : l .height ≤ 128
-  pub whole : l .rows ≡ l .height
+  pub rows : 0 < l .rows
 
 -- block b of macroblock m is one of the picture's
 pub record Among (l : Layout) (m b : ℕ) : Type 0 where

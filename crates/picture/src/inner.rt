@@ -8,7 +8,7 @@ ghost use Rattle.lists.specs.Tab.{tab};
 ghost use Rattle.picture.specs.Order.{Among, columnIn, rowIn, blockColumn, blockRow};
 ghost use Rattle.picture.specs.Plane.{layoutOf, stride, planeLength, blockOf, withBlock, gathered};
 ghost use Rattle.picture.specs.Presence.{presentAt, flagsOf};
-ghost use Rattle.picture.specs.Reach.{Behind, Reaches, early};
+ghost use Rattle.picture.specs.Reach.{Behind, Reaches, rowInSlice, early};
 ghost use Rattle.picture.specs.Whole.{wholeColumn, wholeRow, wholeOf, withWhole, flagsRound, gatheredRound};
 use crate::Layout;
 
@@ -58,7 +58,7 @@ fn row(layout: Layout, m: usize, b: usize) -> usize
 // The same row inside its slice: nothing above a slice is present.
 fn row_in_slice(layout: Layout, m: usize, b: usize) -> usize
     requires { ⌜ Among layout m b ⌝ }
-    ensures { λ r. ⌜ r ≡ 16 * (m / layout .width % layout .rows) + 4 * rowIn b ⌝ }
+    ensures { λ r. ⌜ r ≡ rowInSlice layout m b ⌝ }
 {
     16 * (m / layout.width % layout.rows) + 4 * row_inside(b)
 }
@@ -102,12 +102,12 @@ fn early(b: usize) -> bool
     }
 }
 
-// Whether E-H are present.
+// Whether E-H are present: there is a row above in the slice, they lie in the picture, and their block comes earlier.
 fn has_upper_right(layout: Layout, m: usize, b: usize) -> bool
     requires { ⌜ Among layout m b ⌝ }
     ensures { λ r. ⌜ r ≡ presentAt 4 layout m b 5 ⌝ }
 {
-    if has_above(layout, m, b) {
+    if 0 < row_in_slice(layout, m, b) {
         if column(layout, m, b) + 8 <= 16 * layout.width {
             early(b)
         } else {

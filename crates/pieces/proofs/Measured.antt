@@ -13,10 +13,11 @@ use Rattle.residual.specs.Order.{inZigzag, inPlaces}
 use Rattle.residual.specs.Quantize.{levelBy}
 use Rattle.residual.specs.Rescale.{scaledBy, rescaled}
 use Rattle.dc.specs.Dc.{quantizedDc, lumaLevels, lumaScaled, lumaValues, chromaLevels, chromaScaled, chromaValues}
-use Rattle.record.specs.Records.{headOf, summed}
-use Rattle.record.specs.Sum.{sumOf}
+use Rattle.head.specs.Heads.{headOf, oldHead}
+use Rattle.octets.specs.Sum.{summed}
+use Rattle.octets.specs.Sum.{sumOf}
 use Rattle.pieces.specs.Table.{AsMeasured, table}
 
 pub measured : AsMeasured table
-unfolding table first tab grid clip inside firstOutside forward inverse bitOf predicted downLeft horizontalUp inZigzag inPlaces levelBy scaledBy rescaled headOf summed sumOf lumaLevels quantizedDc lumaValues lumaScaled chromaLevels chromaValues chromaScaled hadamard
+unfolding table first tab grid clip inside firstOutside forward inverse bitOf predicted downLeft horizontalUp inZigzag inPlaces levelBy scaledBy rescaled headOf oldHead summed sumOf lumaLevels quantizedDc lumaValues lumaScaled chromaLevels chromaValues chromaScaled hadamard
 measured = (refl, (refl, (refl, (refl, (refl, (refl, (refl, (refl, (refl, (refl, (refl, (refl, (refl, (refl, (refl, (refl, (refl, (refl, (refl, (refl, (refl, (refl, (refl, (refl, (refl, (refl, (refl, tt)))))))))))))))))))))))))))

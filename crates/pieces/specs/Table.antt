@@ -19,7 +19,7 @@ use Rattle.residual.specs.Quantize.{levelOf}
 use Rattle.residual.specs.Rebuild.{rescaledOf}
 use Rattle.residual.specs.Rescale.{mfAt}
 use Rattle.dc.specs.Dc.{lumaLevels, lumaValues, chromaLevels, chromaValues}
-use Rattle.record.specs.Records.{headOf}
+use Rattle.head.specs.Heads.{headOf}
 
 -- what is computed, and what is measured, as numbers
 pub record Piece : Type 0 where
@@ -114,7 +114,7 @@ table =
     ∷ piece (chromaAt 51 (pos 12)) (pos 39 ∷ [])
     ∷ piece (chromaAt 0 (negsuc 11)) (pos 0 ∷ [])
     -- "Head of a 1x1 picture: 48 44 00 01 00 01 00 8E."
-    ∷ piece (map pos (headOf 1 1)) (pos 72 ∷ pos 68 ∷ pos 0 ∷ pos 1 ∷ pos 0 ∷ pos 1 ∷ pos 0 ∷ pos 142 ∷ [])
+    ∷ piece (map pos (headOf 1 1 1)) (pos 72 ∷ pos 68 ∷ pos 0 ∷ pos 1 ∷ pos 0 ∷ pos 1 ∷ pos 0 ∷ pos 142 ∷ [])
     ∷ []
 
 -- each piece of a table is as measured

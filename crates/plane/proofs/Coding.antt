@@ -13,14 +13,13 @@ use Rattle.lists.proofs.Fold.{Folding, folding-none, folding-more, folding-done
 use Rattle.lists.proofs.Over.{over-more, over-again, length-over}
 use Rattle.lists.proofs.Parts.{parts-more}
 use Rattle.record.specs.Kinds.{inFours, lengthOf}
-use Rattle.record.specs.Records.{headLength, headOf, areaLength}
-use Rattle.record.proofs.Back.{length-head}
+use Rattle.head.proofs.Back.{length-head}
 use Rattle.picture.specs.declared.Layout.{Layout}
 use Rattle.picture.specs.Order.{countOf}
 use Rattle.picture.specs.Plane.{planeLength}
 use Rattle.macroblock.specs.Code.{recordFrom, codedStep}
 use Rattle.macroblock.proofs.Looks.{coded-step}
-use Rattle.plane.specs.Code.{planeBefore, fileFrom, planeFrom}
+use Rattle.plane.specs.Code.{headFor, behindHead, areaLength, planeBefore, fileFrom, planeFrom}
 use Rattle.plane.proofs.CodedFile.{recordOn, fileTo, length-on, length-to}
 
 module _ (l : Layout) (qp : ℕ) (original start area : List ℕ) where
@@ -28,7 +27,7 @@ module _ (l : Layout) (qp : ℕ) (original start area : List ℕ) where
   pub record FileCoded (file rebuilt : List ℕ) (place m : ℕ) : Type 0 where
     pub kept : length rebuilt ≡ planeLength 16 l
     pub stepped : Folding (countOf l) (codedStep l qp original) start rebuilt m
-    pub room : areaLength (countOf l) ≤ length area
+    pub room : areaLength l ≤ length area
     pub filled : file ≡ over (fileTo l qp original start m) area
     pub next : place ≡ length (fileTo l qp original start m)
 
@@ -60,7 +59,7 @@ module _ (l : Layout) (qp : ℕ) (original start area : List ℕ) where
       let e : recordFrom l qp original m rebuilt ≡ recordOn l qp original start m = ap (recordFrom l qp original m) (c .stepped .is) in
       let r = room-left c h in
       let more : fileTo l qp original start (m + 1) ≡ fileTo l qp original start m ++ recordOn l qp original start m =
-      ap (λ (x : List ℕ). headOf (l .width) (l .height) ++ x) (parts-more m (recordOn l qp original start)) ∙ sym (append-assoc (headOf (l .width) (l .height)) (parts m (recordOn l qp original start)) (recordOn l qp original start m)) in
+      ap (λ (x : List ℕ). headFor l ++ x) (parts-more m (recordOn l qp original start)) ∙ sym (append-assoc (headFor l) (parts m (recordOn l qp original start)) (recordOn l qp original start m)) in
       let long = length-on l qp original start m in
       let at : back ≡ over (recordOn l qp original start m) (take (end - length (fileTo l qp original start m)) (drop (length (fileTo l qp original start m)) file)) =
       is-back ∙ (λ i. over (e i) (take (end - c .next i) (drop (c .next i) file))) in
@@ -79,30 +78,30 @@ module _ (l : Layout) (qp : ℕ) (original start area : List ℕ) where
 
 module _ (l : Layout) (qp : ℕ) (original start stood : List ℕ) where
   -- the head has been written
-  pub file-begun : {file : List ℕ} {place : ℕ} → length start ≡ planeLength 16 l → areaLength (countOf l) ≤ length stood
-      → file ≡ over (headOf (l .width) (l .height)) stood → place ≡ headLength → FileCoded l qp original start file file start place 0
+  pub file-begun : {file : List ℕ} {place : ℕ} → length start ≡ planeLength 16 l → areaLength l ≤ length stood
+      → file ≡ over (headFor l) stood → place ≡ (behindHead l) → FileCoded l qp original start file file start place 0
   unfolding parts
   file-begun {file} {place} long room is-file is-place =
-      let h = headOf (l .width) (l .height) in
-      let n = length-head (l .width) (l .height) in
-      let same : file ≡ over (headOf (l .width) (l .height)) file =
-      is-file ∙ sym (ap (over (headOf (l .width) (l .height))) is-file ∙ over-again (headOf (l .width) (l .height)) (headOf (l .width) (l .height)) stood (omega arith)) in
+      let h = headFor l in
+      let n = length-head (l .width) (l .height) (l .rows) in
+      let same : file ≡ over (headFor l) file =
+      is-file ∙ sym (ap (over (headFor l)) is-file ∙ over-again (headFor l) (headFor l) stood (omega arith)) in
       record {
         kept = long;
         stepped = folding-none _ _ _;
-        room = omega (arith, ap length is-file, length-over (headOf (l .width) (l .height)) stood (omega (arith, n, room)), room);
-        filled = rw (append-nil (headOf (l .width) (l .height))) same;
-        next = rw (append-nil (headOf (l .width) (l .height))) (is-place ∙ sym n);
+        room = omega (arith, ap length is-file, length-over (headFor l) stood (omega (arith, n, room)), room);
+        filled = rw (append-nil (headFor l)) same;
+        next = rw (append-nil (headFor l)) (is-place ∙ sym n);
       }
 
-  pub file-done : {area file rebuilt : List ℕ} {place m : ℕ} → area ≡ over (headOf (l .width) (l .height)) stood → FileCoded l qp original start area file rebuilt place m → countOf l ≤ m
+  pub file-done : {area file rebuilt : List ℕ} {place m : ℕ} → area ≡ over (headFor l) stood → FileCoded l qp original start area file rebuilt place m → countOf l ≤ m
       → (place ≡ length (fileFrom l qp original start)) × (file ≡ over (fileFrom l qp original start) stood) × (rebuilt ≡ planeFrom l qp original start)
   unfolding fileFrom planeBefore
   file-done {area} {file} {rebuilt} {place} {m} is-area c h =
       let e : m ≡ countOf l = omega (arith, c .stepped .below) in
       let all = fileTo l qp original start (countOf l) in
-      let longer = length-append (headOf (l .width) (l .height)) (parts (countOf l) (recordOn l qp original start)) in (
+      let longer = length-append (headFor l) (parts (countOf l) (recordOn l qp original start)) in (
         rw e at (c .next),
-        (rw e at (c .filled)) ∙ ap (over all) is-area ∙ over-again (headOf (l .width) (l .height)) all stood (omega (arith, longer)),
+        (rw e at (c .filled)) ∙ ap (over all) is-area ∙ over-again (headFor l) all stood (omega (arith, longer)),
         folding-done _ _ _ (c .stepped) h,
       )

@@ -5,7 +5,7 @@
 --     head-read, head-refused, decodes-by     what a head tells, and the tests behind it
 --     decode-plane-refuses-exactly-if
 -- Assumes nothing.
-use mathlib.Core.Path.{_≡_, refl, sym, ap, _∙_}
+use mathlib.Core.Path.{_≡_, sym, ap, _∙_}
 use mathlib.Core.Bool.{true}
 use mathlib.Core.List.{List, _++_}
 use Prim.Native.Nat.{ℕ}
@@ -20,16 +20,16 @@ use Rattle.refusal.specs.declared.Answer.the-variants.{Done, Refused}
 use Rattle.refusal.specs.declared.Refusal.{Refusal}
 use Rattle.refusal.specs.declared.Refusal.the-variants as refusal
 use Rattle.refusal.proofs.Same.{says, says-same, says-exactly-if}
-use Rattle.record.specs.declared.Head.{Head}
-use Rattle.record.specs.declared.Head.the-variants.{Legal}
-use Rattle.record.specs.declared.Head.the-variants as head-variants
-use Rattle.record.specs.Entry as head
-use Rattle.record.specs.Entry.{ReadsHead, headTests, sizeHolds}
-use Rattle.record.specs.Records.{headLength}
-use Rattle.record.proofs.Heads.{sized-of, head-told}
+use Rattle.head.specs.declared.Head.{Head}
+use Rattle.head.specs.declared.Head.the-variants.{Legal}
+use Rattle.head.specs.declared.Head.the-variants as head-variants
+use Rattle.head.specs.Entry as head
+use Rattle.head.specs.Entry.{ReadsHead, headTests, longAt, sizeHolds, rowsHold}
+use Rattle.head.proofs.Heads.{sized-of, rows-of, head-told}
 use Rattle.picture.specs.declared.Layout.{Layout}
 use Rattle.picture.specs.Order.{Sound}
-use Rattle.picture.specs.Plane.{layoutOf, planeLength}
+use Rattle.picture.specs.Plane.{planeLength}
+use Rattle.plane.specs.Code.{inSlices}
 use Rattle.plane.specs.Decode.{recordIn, formsTests, contentsTests, bodyTests, layoutIn, decodeTests, decoded, decodedPlane, DecodesBody, Decodes}
 
 module _ (l : Layout) (place : ℕ) (file plane : List ℕ) where
@@ -58,38 +58,37 @@ module _ (l : Layout) (place : ℕ) (file plane : List ℕ) where
 
 -- ---- the head
 
-pub sound-of : (width height : ℕ) → sizeHolds width height ≡ true → Sound (layoutOf width height)
-sound-of width height e = let s = sized-of width height e in record { some = s .some; wide = s .wide; high = s .high; whole = refl }
+pub sound-of : (width height rows : ℕ) → sizeHolds width height ≡ true → rowsHold height rows ≡ true → Sound (inSlices width height rows)
+sound-of width height rows e h = let s = sized-of width height e in record { some = s .some; wide = s .wide; high = s .high; rows = rows-of height rows h .0 }
 
 -- a head was read, and tells of this picture and of its own length
 pub record LegalHead (file : List ℕ) (l : Layout) (long : ℕ) : Type 0 where
   pub passed : chain (headTests file) ≡ pass
   pub tells : l ≡ layoutIn file
-  pub ends : long ≡ headLength
+  pub ends : long ≡ longAt file
   pub sound : Sound l
 
 pub head-read : (file : List ℕ) {h : Head} {width height rows long : ℕ} → ReadsHead file h → h ≡ Legal width height rows long
     → LegalHead file (record { width = width; height = height; rows = rows }) long
 head-read file {h} {width} {height} {rows} {long} p e =
     let t = head-told file p e in
-    let z : rows ≡ height = t .sliced ∙ sym (t .high) in
     record {
       passed = t .passed;
       tells = λ i. record { width = t .wide i; height = t .high i; rows = t .sliced i };
       ends = t .behind;
-      sound = record { some = t .sized .some; wide = t .sized .wide; high = t .sized .high; whole = z };
+      sound = record { some = t .sized .some; wide = t .sized .wide; high = t .sized .high; rows = t .some-rows };
     }
 
 module _ (file before : List ℕ) where
   pub head-refused : {h : Head} {r : Refusal} → ReadsHead file h → h ≡ head-variants.Refused r → Decodes file before (Refused r) before
   head-refused {h} {r} p e =
-      let v = chain-refused (headTests file) (bodyTests (layoutIn file) headLength file before) r (sym (says-same (p .says)) ∙ ap head.said e) in
+      let v = chain-refused (headTests file) (bodyTests (layoutIn file) (longAt file) file before) r (sym (says-same (p .says)) ∙ ap head.saidHead e) in
       record { says = says (sym v); wrote = ap (λ (w : Verdict Refusal). written w (decodedPlane file) before) (sym v) }
 
   pub decodes-by : {l : Layout} {long : ℕ} {r : Answer} {after : List ℕ} → LegalHead file l long → DecodesBody l long file before r after → Decodes file before r after
   decodes-by {l} {long} {r} {after} h d =
-      let v = chain-passed (headTests file) (bodyTests (layoutIn file) headLength file before) (h .passed) in
-      let x : DecodesBody (layoutIn file) headLength file before r after = coe 0 1 (i. DecodesBody (h .tells i) (h .ends i) file before r after) d in
+      let v = chain-passed (headTests file) (bodyTests (layoutIn file) (longAt file) file before) (h .passed) in
+      let x : DecodesBody (layoutIn file) (longAt file) file before r after = coe 0 1 (i. DecodesBody (h .tells i) (h .ends i) file before r after) d in
       record { says = says (x .says ∙ sym v); wrote = x .wrote ∙ ap (λ (w : Verdict Refusal). written w (decodedPlane file) before) (sym v) }
 
 -- ---- the theorems

@@ -11,18 +11,18 @@ use native.Mathlib.Omega.{arith}
 use borrow.Author.Tests.{eqb-true, eqb-false}
 use lib.Dec.{eqb}
 use lib.ListN.{length}
-use Rattle.lists.specs.Chain.{Verdict, pass, stop, chain, RefusedWith}
+use Rattle.lists.specs.Chain.{Verdict, pass, stop, chain}
 use Rattle.lists.specs.Parts.{parts}
-use Rattle.lists.proofs.Chain.{chain-exactly-if, chain-passed, chain-refused, pass-not-stop}
+use Rattle.lists.proofs.Chain.{chain-passed, chain-refused, pass-not-stop}
 use Rattle.refusal.specs.declared.Answer.{Answer}
 use Rattle.refusal.specs.declared.Answer.the-variants.{Refused}
 use Rattle.refusal.specs.declared.Refusal.{Refusal}
 use Rattle.refusal.specs.declared.Refusal.the-variants as refusal
 use Rattle.refusal.specs.Number.{said}
 use Rattle.refusal.proofs.Same.{says-same, same-answer}
-use Rattle.record.specs.Entry.{headTests}
-use Rattle.record.specs.Faults.{refusalOf}
-use Rattle.record.specs.Records.{headLength, lengthFrom, recordPlace}
+use Rattle.head.specs.Entry.{headTests, longAt}
+use Rattle.refusal.specs.Faults.{refusalOf}
+use Rattle.record.specs.Records.{lengthFrom, recordPlace}
 use Rattle.record.proofs.Walks.{Faulted, Left, form-refuses-exactly-if}
 use Rattle.picture.specs.declared.Layout.{Layout}
 use Rattle.picture.specs.Order.{countOf}
@@ -53,57 +53,57 @@ module _ (file before : List ℕ) (place : ℕ) where
   l = layoutIn file
 
   abbrev placeAt : ℕ → ℕ
-  placeAt m = recordPlace m file headLength
+  placeAt m = recordPlace m file (longAt file)
 
   -- ---- from the refusal to what is wrong
 
   forms-only : chain (headTests file) ≡ pass → length before ≡ planeLength 16 l
-      → Faulted file headLength (countOf l) (refusal.Form place) ⊎ Left file headLength (countOf l) (refusal.Form place) → FormRefused file before place
+      → Faulted file (longAt file) (countOf l) (refusal.Form place) ⊎ Left file (longAt file) (countOf l) (refusal.Form place) → FormRefused file before place
   forms-only head plane (inl h) =
       let f = h .first in
       at-record head plane (f .0) (f .1) (f .3) (h .fault) (f .4)
       (h .is ∙ ap (λ (p : ℕ). refusalOf (h .fault) p (lengthFrom p file) (length file)) (f .2))
   forms-only head plane (inr h) = behind-last head plane (h .fine) (h .more) (same-form (sym (ap stop (h .is))))
 
-  records-only : chain (headTests file) ≡ pass → length before ≡ planeLength 16 l → chain (recordsTests l headLength file before) ≡ stop (refusal.Form place)
+  records-only : chain (headTests file) ≡ pass → length before ≡ planeLength 16 l → chain (recordsTests l (longAt file) file before) ≡ stop (refusal.Form place)
       → FormRefused file before place
-  records-only head plane e = by (chain (formsTests l headLength file)) refl
+  records-only head plane e = by (chain (formsTests l (longAt file) file)) refl
     where
-      by : (v : Verdict Refusal) → chain (formsTests l headLength file) ≡ v → FormRefused file before place
+      by : (v : Verdict Refusal) → chain (formsTests l (longAt file) file) ≡ v → FormRefused file before place
       by pass q =
-          absurd (contents-not-form l (recordIn file headLength) (countOf l) place
-          (sym (chain-passed (formsTests l headLength file) (contentsTests l (recordIn file headLength)) q) ∙ e))
+          absurd (contents-not-form l (recordIn file (longAt file)) (countOf l) place
+          (sym (chain-passed (formsTests l (longAt file) file) (contentsTests l (recordIn file (longAt file))) q) ∙ e))
       by (stop r) q =
-          let told : chain (formsTests l headLength file) ≡ stop (refusal.Form place) =
-          q ∙ sym (chain-refused (formsTests l headLength file) (contentsTests l (recordIn file headLength)) r q) ∙ e in
-          forms-only head plane (form-refuses-exactly-if file headLength (countOf l) (refusal.Form place) .0 told)
+          let told : chain (formsTests l (longAt file) file) ≡ stop (refusal.Form place) =
+          q ∙ sym (chain-refused (formsTests l (longAt file) file) (contentsTests l (recordIn file (longAt file))) r q) ∙ e in
+          forms-only head plane (form-refuses-exactly-if file (longAt file) (countOf l) (refusal.Form place) .0 told)
 
-  body-only : chain (headTests file) ≡ pass → chain (bodyTests l headLength file before) ≡ stop (refusal.Form place) → FormRefused file before place
+  body-only : chain (headTests file) ≡ pass → chain (bodyTests l (longAt file) file before) ≡ stop (refusal.Form place) → FormRefused file before place
   body-only head e = by (eqb (length before) (planeLength 16 l)) refl
     where
       by : (b : Bool) → eqb (length before) (planeLength 16 l) ≡ b → FormRefused file before place
-      by true q = let plane = eqb-true (length before) (planeLength 16 l) q in records-only head plane (sym (body-rest l headLength file before plane) ∙ e)
-      by false q = absurd (form-not-length (sym (plane-short l headLength file before (eqb-false (length before) (planeLength 16 l) q)) ∙ e))
+      by true q = let plane = eqb-true (length before) (planeLength 16 l) q in records-only head plane (sym (body-rest l (longAt file) file before plane) ∙ e)
+      by false q = absurd (form-not-length (sym (plane-short l (longAt file) file before (eqb-false (length before) (planeLength 16 l) q)) ∙ e))
 
   refused-only : chain (decodeTests file before) ≡ stop (refusal.Form place) → FormRefused file before place
   refused-only e = by (chain (headTests file)) refl
     where
       by : (v : Verdict Refusal) → chain (headTests file) ≡ v → FormRefused file before place
-      by pass q = body-only q (sym (chain-passed (headTests file) (bodyTests l headLength file before) q) ∙ e)
-      by (stop r) q = at-head (q ∙ sym (chain-refused (headTests file) (bodyTests l headLength file before) r q) ∙ e)
+      by pass q = body-only q (sym (chain-passed (headTests file) (bodyTests l (longAt file) file before) q) ∙ e)
+      by (stop r) q = at-head (q ∙ sym (chain-refused (headTests file) (bodyTests l (longAt file) file before) r q) ∙ e)
 
   -- ---- and from what is wrong to the refusal
 
   forms-if : chain (headTests file) ≡ pass → length before ≡ planeLength 16 l
-      → Faulted file headLength (countOf l) (refusal.Form place) ⊎ Left file headLength (countOf l) (refusal.Form place)
+      → Faulted file (longAt file) (countOf l) (refusal.Form place) ⊎ Left file (longAt file) (countOf l) (refusal.Form place)
       → chain (decodeTests file before) ≡ stop (refusal.Form place)
   forms-if head plane h =
-      chain-passed (headTests file) (bodyTests l headLength file before) head ∙ body-rest l headLength file before plane
-      ∙ chain-refused (formsTests l headLength file) (contentsTests l (recordIn file headLength)) (refusal.Form place)
-      (form-refuses-exactly-if file headLength (countOf l) (refusal.Form place) .1 h)
+      chain-passed (headTests file) (bodyTests l (longAt file) file before) head ∙ body-rest l (longAt file) file before plane
+      ∙ chain-refused (formsTests l (longAt file) file) (contentsTests l (recordIn file (longAt file))) (refusal.Form place)
+      (form-refuses-exactly-if file (longAt file) (countOf l) (refusal.Form place) .1 h)
 
   refused-if : FormRefused file before place → chain (decodeTests file before) ≡ stop (refusal.Form place)
-  refused-if (at-head e) = chain-refused (headTests file) (bodyTests l headLength file before) (refusal.Form place) e
+  refused-if (at-head e) = chain-refused (headTests file) (bodyTests l (longAt file) file before) (refusal.Form place) e
   refused-if (at-record head plane m h fine fault v is) =
       forms-if head plane (inl (record { fault = fault; place = placeAt m; first = (m, h, refl, fine, v); is = is }))
   refused-if (behind-last head plane fine more is) =

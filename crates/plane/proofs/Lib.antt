@@ -7,6 +7,7 @@ pub mod FormRefused
 pub mod OwnRecord
 pub mod OwnWitness
 pub mod Rest
+pub mod Slices
 pub mod Start
 pub mod Trip
 pub mod Unique

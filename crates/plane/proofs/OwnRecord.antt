@@ -7,27 +7,24 @@
 -- Assumes nothing.
 use mathlib.Core.Path.{_≡_, sym, ap, _∙_}
 use mathlib.Core.List.{List, _++_}
-use Prim.Native.Nat.{ℕ, _+_, _*_, _/_, _%_, _<_, _≤_}
+use Prim.Native.Nat.{ℕ, _*_, _<_, _≤_}
 use native.Mathlib.Omega.{arith}
-use lib.Arith.{digits-div, digits-mod}
 use lib.ListN.{length, take}
-use Rattle.lists.specs.Tab.{grid}
-use Rattle.lists.proofs.Alike.{Agree}
+use Rattle.lists.proofs.Alike.{Agree, agree-less}
 use Rattle.lists.proofs.Fold.{fold-follow}
 use Rattle.lists.proofs.Parts.{parts-same, parts-front}
-use Rattle.lists.proofs.Tab.{tab-same}
-use Rattle.record.specs.Records.{headLength, headOf, recordPlace}
-use Rattle.record.proofs.Back.{length-head, place-found}
+use Rattle.record.specs.Records.{recordPlace}
+use Rattle.head.proofs.Back.{length-head}
+use Rattle.record.proofs.Back.{place-found}
 use Rattle.picture.specs.declared.Layout.{Layout}
-use Rattle.picture.specs.Order.{countOf, blockColumn, blockRow}
-use Rattle.picture.specs.Plane.{layoutOf, planeLength, blockAt, blockOf}
-use Rattle.picture.proofs.Blocks.{starts-four}
-use Rattle.picture.proofs.Owner.{own-order, order-macroblock, macroblockOwning}
-use Rattle.picture.proofs.Plane.{within, room-of}
+use Rattle.picture.specs.Order.{countOf}
+use Rattle.picture.specs.Plane.{planeLength, blockOf}
+use Rattle.picture.proofs.Owner.{macroblockOwning}
+use Rattle.picture.proofs.Whole.{same-blocks}
 use Rattle.macroblock.specs.Code.{recordFrom, codedStep}
 use Rattle.macroblock.proofs.Own.{step-own, record-own}
 use Rattle.plane.specs.Decode.{cleared}
-use Rattle.plane.specs.Code.{planeBefore, fileFrom, CodesPlane}
+use Rattle.plane.specs.Code.{inSlices, headFor, behindHead, planeBefore, fileFrom, CodesPlane}
 use Rattle.plane.specs.declared.CodedPlane.the-variants.{Bytes}
 use Rattle.plane.proofs.CodedFile.{recordOn, fileTo, own-on}
 use Rattle.plane.proofs.CodedOutcome.{outcome}
@@ -38,35 +35,26 @@ SameTo l m p q = (k : ℕ) → k < m → (b : ℕ) → b < 16 → blockOf 4 l k 
 
 -- so it is where all their samples before that macroblock's are the same
 pub same-to : (l : Layout) → 0 < l .width → (m : ℕ) → m ≤ countOf l → (p q : List ℕ) → Agree 0 (planeLength 16 l) (λ i. macroblockOwning 16 l i < m) p q → SameTo l m p q
-unfolding blockAt grid
 same-to l some m hm p q alike k hk b hb =
-    let x = blockColumn l k b in
-    let y = blockRow l k b in
-    let r = room-of 4 l k b some (omega arith) (starts-four b hb) in
-    tab-same 16 _ _
-    (λ i hi.
-    let column : blockColumn l k b + i % 4 < 16 * l .width = omega (arith, r .wide) in
-    let owner = own-order l k b (i % 4) (i / 4) hb (omega arith) (omega arith) in
-    alike .agree ((y + i / 4) * (16 * l .width) + (x + i % 4)) (within r (i % 4) (i / 4) (omega arith) (omega arith))
-    (rw (digits-mod (blockRow l k b + i / 4) column, digits-div (blockRow l k b + i / 4) column)
-    (omega (arith, owner, order-macroblock l (blockColumn l k b + i % 4) (blockRow l k b + i / 4) .0))))
+    same-blocks l some k (omega arith) p q
+    (agree-less 0 (planeLength 16 l) (λ i. macroblockOwning 16 l i < m) (λ i. macroblockOwning 16 l i ≡ k) (λ i hi own. omega (arith, own)) p q alike) b hb
 
 -- ---- the picture
 
 module _ (l : Layout) (qp : ℕ) (original start : List ℕ) where
   -- record m begins where the head and the records before it end
-  pub place-from : (m : ℕ) → m ≤ countOf l → recordPlace m (fileFrom l qp original start) headLength ≡ length (fileTo l qp original start m)
+  pub place-from : (m : ℕ) → m ≤ countOf l → recordPlace m (fileFrom l qp original start) (behindHead l) ≡ length (fileTo l qp original start m)
   unfolding fileFrom
   place-from m h =
-      ap (recordPlace m (fileTo l qp original start (countOf l))) (sym (length-head (l .width) (l .height)))
-      ∙ place-found (headOf (l .width) (l .height)) (recordOn l qp original start) (countOf l) (λ k n. own-on l qp original start k) m h
+      ap (recordPlace m (fileTo l qp original start (countOf l))) (sym (length-head (l .width) (l .height) (l .rows)))
+      ∙ place-found (headFor l) (recordOn l qp original start) (countOf l) (λ k n. own-on l qp original start k) m h
 
   -- and these are what stands before it
-  pub front-from : (m : ℕ) → m ≤ countOf l → take (recordPlace m (fileFrom l qp original start) headLength) (fileFrom l qp original start) ≡ fileTo l qp original start m
+  pub front-from : (m : ℕ) → m ≤ countOf l → take (recordPlace m (fileFrom l qp original start) (behindHead l)) (fileFrom l qp original start) ≡ fileTo l qp original start m
   unfolding fileFrom
   front-from m h =
       ap (λ (n : ℕ). take n (fileTo l qp original start (countOf l))) (place-from m h)
-      ∙ parts-front (headOf (l .width) (l .height)) (countOf l) m (recordOn l qp original start) h
+      ∙ parts-front (headFor l) (countOf l) m (recordOn l qp original start) h
 
 module _ (l : Layout) (qp : ℕ) (start p q : List ℕ) (m : ℕ) (same : SameTo l m p q) where
   pub before-own : (k : ℕ) → k ≤ m → planeBefore l qp p start k ≡ planeBefore l qp q start k
@@ -79,22 +67,22 @@ module _ (l : Layout) (qp : ℕ) (start p q : List ℕ) (m : ℕ) (same : SameTo
 
   -- the head and all records before record m, which begins at the same place
   pub own-front : fileTo l qp p start m ≡ fileTo l qp q start m
-  own-front = ap (λ (records : List ℕ). headOf (l .width) (l .height) ++ records) (parts-same m (recordOn l qp p start) (recordOn l qp q start) same-records)
+  own-front = ap (λ (records : List ℕ). headFor l ++ records) (parts-same m (recordOn l qp p start) (recordOn l qp q start) same-records)
 
 -- ---- by the contract
 
 -- the files of two planes that agree in all macroblocks before m, each in the bytes used: where record m begins, and what stands before it
-module _ (width height qp : ℕ) (p q file-p rebuilt-p file-q rebuilt-q : List ℕ) (used-p used-q : ℕ) (file-p′ rebuilt-p′ file-q′ rebuilt-q′ : List ℕ)
-    (coded-p : CodesPlane width height qp p file-p rebuilt-p (Bytes used-p) file-p′ rebuilt-p′)
-    (coded-q : CodesPlane width height qp q file-q rebuilt-q (Bytes used-q) file-q′ rebuilt-q′)
+module _ (width height rows qp : ℕ) (p q file-p rebuilt-p file-q rebuilt-q : List ℕ) (used-p used-q : ℕ) (file-p′ rebuilt-p′ file-q′ rebuilt-q′ : List ℕ)
+    (coded-p : CodesPlane width height rows qp p file-p rebuilt-p (Bytes used-p) file-p′ rebuilt-p′)
+    (coded-q : CodesPlane width height rows qp q file-q rebuilt-q (Bytes used-q) file-q′ rebuilt-q′)
   where
-    pub own-record-coded : (m : ℕ) → m ≤ width * height → SameTo (layoutOf width height) m p q
-        → (recordPlace m (take used-p file-p′) headLength ≡ recordPlace m (take used-q file-q′) headLength)
-        × (take (recordPlace m (take used-p file-p′) headLength) (take used-p file-p′) ≡ take (recordPlace m (take used-q file-q′) headLength) (take used-q file-q′))
+    pub own-record-coded : (m : ℕ) → m ≤ width * height → SameTo (inSlices width height rows) m p q
+        → (recordPlace m (take used-p file-p′) (behindHead (inSlices width height rows)) ≡ recordPlace m (take used-q file-q′) (behindHead (inSlices width height rows)))
+        × (take (recordPlace m (take used-p file-p′) (behindHead (inSlices width height rows))) (take used-p file-p′) ≡ take (recordPlace m (take used-q file-q′) (behindHead (inSlices width height rows))) (take used-q file-q′))
     own-record-coded m h same =
-        let l = layoutOf width height in
-        let start = cleared (planeLength 16 (layoutOf width height)) in
-        let x = outcome width height qp p file-p rebuilt-p used-p file-p′ rebuilt-p′ coded-p .filed in
-        let y = outcome width height qp q file-q rebuilt-q used-q file-q′ rebuilt-q′ coded-q .filed in
+        let l = inSlices width height rows in
+        let start = cleared (planeLength 16 (inSlices width height rows)) in
+        let x = outcome width height rows qp p file-p rebuilt-p used-p file-p′ rebuilt-p′ coded-p .filed in
+        let y = outcome width height rows qp q file-q rebuilt-q used-q file-q′ rebuilt-q′ coded-q .filed in
         let front = own-front l qp start p q m same in
         rw (x, y) (place-from l qp p start m h ∙ ap length front ∙ sym (place-from l qp q start m h), front-from l qp p start m h ∙ front ∙ sym (front-from l qp q start m h))

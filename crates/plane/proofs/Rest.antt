@@ -20,14 +20,14 @@ use Rattle.plane.proofs.code_plane.Reads as reads
 module _ (κs : Lfts 3) (a : Dens κs call.ps) (r : resT call.r κs .Denot) (e : AtExit (endedOf 3 call.ps call.r) κs) (p : reads.Learnt κs a r e) where
   -- the file area, as it was lent and as it is left
   abbrev lent : List ℕ
-  lent = now (a .1 .1 .1 .1 .0)
+  lent = now (a .1 .1 .1 .1 .1 .0)
 
   abbrev left : List ℕ
-  left = now (e .1 .1 .1 .1 .0)
+  left = now (e .1 .1 .1 .1 .1 .0)
 
   pub rest-keeps : (used : ℕ) → r ≡ Bytes used → (used ≤ length lent) × (drop used left ≡ drop used lent)
   rest-keeps used is =
-      let rebuilt = now (a .1 .1 .1 .1 .1 .0) in
-      let c = subst (λ (x : CodedPlane). CodesPlane (a .0) (a .1 .0) (a .1 .1 .0) (now (a .1 .1 .1 .0)) lent rebuilt x left (now (e .1 .1 .1 .1 .1 .0))) is p in
-      let o = outcome (a .0) (a .1 .0) (a .1 .1 .0) (now (a .1 .1 .1 .0)) lent rebuilt used left (now (e .1 .1 .1 .1 .1 .0)) c in
+      let rebuilt = now (a .1 .1 .1 .1 .1 .1 .0) in
+      let c = subst (λ (x : CodedPlane). CodesPlane (a .0) (a .1 .0) (a .1 .1 .0) (a .1 .1 .1 .0) (now (a .1 .1 .1 .1 .0)) lent rebuilt x left (now (e .1 .1 .1 .1 .1 .1 .0))) is p in
+      let o = outcome (a .0) (a .1 .0) (a .1 .1 .0) (a .1 .1 .1 .0) (now (a .1 .1 .1 .1 .0)) lent rebuilt used left (now (e .1 .1 .1 .1 .1 .1 .0)) c in
       (o .within, o .kept)

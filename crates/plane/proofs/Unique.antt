@@ -15,7 +15,7 @@ pub decode-plane-unique : Unique 2 decode-plane.ps decode-plane.r decode-plane-r
 decode-plane-unique κs a x y e f p q = (same-answer x y (says-same (p .says) ∙ sym (says-same (q .says))), p .wrote ∙ sym (q .wrote))
 
 -- both outputs at exit
-pub code-plane-unique : Unique 3 code-plane.ps code-plane.r code-plane-reads.Learnt (List ℕ × List ℕ) (λ κs e. (now (e .1 .1 .1 .1 .0), now (e .1 .1 .1 .1 .1 .0)))
+pub code-plane-unique : Unique 3 code-plane.ps code-plane.r code-plane-reads.Learnt (List ℕ × List ℕ) (λ κs e. (now (e .1 .1 .1 .1 .1 .0), now (e .1 .1 .1 .1 .1 .1 .0)))
 code-plane-unique κs a x y e f p q =
     let file = p .filed ∙ sym (q .filed) in
     let plane = p .stored ∙ sym (q .stored) in

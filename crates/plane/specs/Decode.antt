@@ -14,10 +14,11 @@ use Rattle.refusal.specs.Tests.{lengthTest}
 use Rattle.refusal.specs.declared.Answer.{Answer}
 use Rattle.refusal.specs.declared.Refusal.{Refusal}
 use Rattle.refusal.specs.declared.Refusal.the-variants as refusal
-use Rattle.record.specs.Entry.{headTests, widthAt, heightAt, rowsAt}
-use Rattle.record.specs.Faults.{refusalOf, formTests, walkOf, walkTests}
-use Rattle.record.specs.Records.{headLength, lengthFrom, recordAt, recordPlace}
-use Rattle.record.specs.declared.Fault.{Fault}
+use Rattle.head.specs.Entry.{headTests, longAt, widthAt, heightAt, rowsAt}
+use Rattle.refusal.specs.Faults.{refusalOf}
+use Rattle.record.specs.Faults.{formTests, walkOf, walkTests}
+use Rattle.record.specs.Records.{lengthFrom, recordAt, recordPlace}
+use Rattle.refusal.specs.declared.Fault.{Fault}
 use Rattle.picture.specs.declared.Layout.{Layout}
 use Rattle.picture.specs.Order.{countOf}
 use Rattle.picture.specs.Plane.{planeLength}
@@ -49,7 +50,7 @@ abbrev pub layoutIn : List ℕ → Layout
 layoutIn file = record { width = widthAt file; height = heightAt file; rows = rowsAt file }
 
 abbrev pub decodeTests : List ℕ → List ℕ → List (Test Refusal)
-decodeTests file plane = headTests file ++ bodyTests (layoutIn file) headLength file plane
+decodeTests file plane = headTests file ++ bodyTests (layoutIn file) (longAt file) file plane
 
 -- ---- the plane
 
@@ -67,7 +68,7 @@ decoded l records = rebuiltFrom l records (cleared (planeLength 16 l))
 
 -- the plane of a file, by what its head says
 abbrev pub decodedPlane : List ℕ → List ℕ
-decodedPlane file = decoded (layoutIn file) (recordIn file headLength)
+decodedPlane file = decoded (layoutIn file) (recordIn file (longAt file))
 
 -- behind a head that is fine and ends at a place: the answer and the plane of the tests that follow
 pub record DecodesBody (l : Layout) (place : ℕ) (file before : List ℕ) (r : Answer) (after : List ℕ) : Type 0 where
@@ -85,11 +86,11 @@ pub data FormRefused (file before : List ℕ) (place : ℕ) : Type 0 where
   at-head : chain (headTests file) ≡ stop (refusal.Form place) → FormRefused file before place
   at-record :
       chain (headTests file) ≡ pass → length before ≡ planeLength 16 (layoutIn file) → (m : ℕ) → m < countOf (layoutIn file)
-      → ((k : ℕ) → k < m → chain (formTests k (drop (recordPlace k file headLength) file)) ≡ pass)
-      → (fault : Fault) → chain (formTests m (drop (recordPlace m file headLength) file)) ≡ stop fault
-      → refusal.Form place ≡ refusalOf fault (recordPlace m file headLength) (lengthFrom (recordPlace m file headLength) file) (length file)
+      → ((k : ℕ) → k < m → chain (formTests k (drop (recordPlace k file (longAt file)) file)) ≡ pass)
+      → (fault : Fault) → chain (formTests m (drop (recordPlace m file (longAt file)) file)) ≡ stop fault
+      → refusal.Form place ≡ refusalOf fault (recordPlace m file (longAt file)) (lengthFrom (recordPlace m file (longAt file)) file) (length file)
       → FormRefused file before place
   behind-last :
       chain (headTests file) ≡ pass → length before ≡ planeLength 16 (layoutIn file)
-      → ((k : ℕ) → k < countOf (layoutIn file) → chain (formTests k (drop (recordPlace k file headLength) file)) ≡ pass)
-      → recordPlace (countOf (layoutIn file)) file headLength < length file → place ≡ length file → FormRefused file before place
+      → ((k : ℕ) → k < countOf (layoutIn file) → chain (formTests k (drop (recordPlace k file (longAt file)) file)) ≡ pass)
+      → recordPlace (countOf (layoutIn file)) file (longAt file) < length file → place ≡ length file → FormRefused file before place

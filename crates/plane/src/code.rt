@@ -4,12 +4,20 @@ ghost use Prim.Native.Nat.{_≤_};
 ghost use lib.ListN.{length};
 ghost use Rattle.lists.specs.Parts.{over};
 ghost use Rattle.quantizer.specs.Range.{highest};
-ghost use Rattle.record.specs.Records.{areaLength};
-ghost use Rattle.picture.specs.Order.{Sound, countOf};
+ghost use Rattle.picture.specs.Order.{Sound};
 ghost use Rattle.picture.specs.Plane.{planeLength};
-ghost use Rattle.plane.specs.Code.{fileFrom, planeFrom};
+ghost use Rattle.plane.specs.Code.{areaLength, fileFrom, planeFrom};
 use picture::Layout;
 use quantizer::Quantizer;
+
+// How long the area is that the coder is lent for the file.
+pub(crate) fn area_length(layout: Layout) -> usize
+    requires { ⌜ Sound layout ⌝ }
+    ensures { λ r. ⌜ r ≡ areaLength layout ⌝ }
+{
+    let count = layout.width * layout.height;
+    head::inner::length_for(layout.height, layout.rows) + record::inner::fours_length() * count
+}
 
 // The head and all macroblocks over the front of the file area; answers the place behind them.
 pub(crate) fn code_file(
@@ -20,12 +28,17 @@ pub(crate) fn code_file(
     rebuilt: &mut [u8],
 ) -> usize
     requires { ⌜ (Sound layout) × (quantizer .qp ≤ highest) × (length (now plane) ≡ planeLength 16 layout) ⌝ }
-    requires { ⌜ (areaLength (countOf layout) ≤ length (now file)) × (length (now rebuilt) ≡ planeLength 16 layout) ⌝ }
+    requires { ⌜ (areaLength layout ≤ length (now file)) × (length (now rebuilt) ≡ planeLength 16 layout) × (layout .rows ≤ layout .height) ⌝ }
     ensures { λ r. ⌜ r ≡ length (fileFrom layout (quantizer .qp) (now (plane .entry)) (now (rebuilt .entry))) ⌝ }
     ensures { λ r. ⌜ now (file .exit) ≡ over (fileFrom layout (quantizer .qp) (now (plane .entry)) (now (rebuilt .entry))) (now (file .entry)) ⌝ }
     ensures { λ r. ⌜ now (rebuilt .exit) ≡ planeFrom layout (quantizer .qp) (now (plane .entry)) (now (rebuilt .entry)) ⌝ }
 {
-    let mut place = record::inner::write_head(layout.width as u16, layout.height as u16, file);
+    let mut place = head::inner::write_head(
+        layout.width as u16,
+        layout.height as u16,
+        layout.rows as u16,
+        file,
+    );
     let count = layout.width * layout.height;
     for m in 0usize..count {
         let end = file.len();

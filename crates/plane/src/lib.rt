@@ -1,16 +1,15 @@
 // A luma plane into its record file, and from it (01, "Plane and record file").
 ghost use mathlib.Core.Path.{_≡_};
 ghost use mathlib.Core.List.{_++_};
-ghost use lib.ListN.{length};
 ghost use Rattle.lists.specs.Chain.{chain};
 ghost use Rattle.refusal.specs.Number.{said};
 ghost use Rattle.picture.specs.Order.{Sound};
 ghost use Rattle.plane.specs.Code.{CodesPlane};
 ghost use Rattle.plane.specs.Decode.{formsTests, contentsTests, recordIn, DecodesBody, Decodes};
+use head::Head;
 use picture::Layout;
 use quantizer::Built;
 use quantizer::Quantizer;
-use record::Head;
 use refusal::Answer;
 use refusal::Refusal;
 
@@ -58,7 +57,7 @@ fn decode(layout: Layout, place: usize, file: &[u8], plane: &mut [u8]) -> Answer
 pub fn decode_plane(file: &[u8], plane: &mut [u8]) -> Answer
     ensures { λ r. ⌜ Decodes (now (file .entry)) (now (plane .entry)) r (now (plane .exit)) ⌝ }
 {
-    match record::read_head(file) {
+    match head::read_head(file) {
         Head::Refused(refusal) => Answer::Refused(refusal),
         Head::Legal(width, height, rows, long) => {
             let layout = Layout {
@@ -71,34 +70,44 @@ pub fn decode_plane(file: &[u8], plane: &mut [u8]) -> Answer
     }
 }
 
-// The record file of a plane, and the plane that a decoder rebuilds from it.
+// The record file of a plane in slices of so many rows, and the plane that a decoder rebuilds from it.
 pub fn code_plane(
     width: usize,
     height: usize,
+    rows: usize,
     qp: u8,
     plane: &[u8],
     file: &mut [u8],
     rebuilt: &mut [u8],
 ) -> CodedPlane
-    ensures { λ r. ⌜ CodesPlane width height qp (now (plane .entry)) (now (file .entry)) (now (rebuilt .entry)) r (now (file .exit)) (now (rebuilt .exit)) ⌝ }
+    ensures { λ r. ⌜ CodesPlane width height rows qp (now (plane .entry)) (now (file .entry)) (now (rebuilt .entry)) r (now (file .exit)) (now (rebuilt .exit)) ⌝ }
 {
-    if !record::inner::size_holds(width, height) {
+    if !head::inner::size_holds(width, height) {
         return CodedPlane::Refused(Refusal::Size);
     }
+    if !head::inner::rows_hold(height, rows) {
+        return CodedPlane::Refused(Refusal::Size);
+    }
+    let layout = Layout {
+        width: width,
+        height: height,
+        rows: rows,
+    };
     let count = width * height;
     if plane.len() != 256 * count {
         return CodedPlane::Refused(Refusal::Length);
     }
-    if file.len() != record::inner::area_length(count) {
+    if file.len() != code::area_length(layout) {
         return CodedPlane::Refused(Refusal::Length);
     }
     if rebuilt.len() != 256 * count {
         return CodedPlane::Refused(Refusal::Length);
     }
-    let Built::Legal(quantizer) = Quantizer::new(qp) else {
-        return CodedPlane::Refused(Refusal::Quantizer(0));
-    };
-    let layout = picture::inner::one_slice(width, height);
-    rebuild::clear(rebuilt);
-    CodedPlane::Bytes(code::code_file(layout, quantizer, plane, file, rebuilt))
+    match Quantizer::new(qp) {
+        Built::Refused(refusal) => CodedPlane::Refused(refusal),
+        Built::Legal(quantizer) => {
+            rebuild::clear(rebuilt);
+            CodedPlane::Bytes(code::code_file(layout, quantizer, plane, file, rebuilt))
+        }
+    }
 }

@@ -1,6 +1,4 @@
 -- Reading gives back what was written.
---     sum-own                                                the sum at the end of a summed list holds
---     length-head, width-back, height-back, head-own, head-back     a head
 --     Own, first-own, form-own                               a record of any kind, whatever stands behind it
 --     longest-own                                            it is no longer than one of the 4x4 kind
 --     length-with, number-with, qp-with, level-with, levels-with, own-with     what is written with a kind's mark and lengths is one, and is read back
@@ -17,107 +15,34 @@ use native.Mathlib.Omega.{arith}
 use borrow.Author.Tests.{eq-eqb, ne-eqb, le-leb}
 use lib.IntN.{ℤ, pos}
 use lib.ListN.{length, take, drop, getD, length-append, length-drop, List·getD-append}
-use lib.Seq.{take-at, getD-append-add, getD-take, getD-drop, length-take-le}
+use lib.Seq.{take-at, getD-take, getD-drop, length-take-le}
 use mir.Syntax.{w16}
 use mir.Val.{ofZ, toZ, SFits}
 use mir.ValLaws.{toZ-ofZ}
-use Rattle.lists.specs.Chain.{pass, chain}
-use Rattle.lists.proofs.Chain.{holds-new}
+use Rattle.lists.specs.Chain.{pass}
 use Rattle.lists.specs.Fold.{fold}
 use Rattle.lists.specs.Parts.{parts}
 use Rattle.lists.proofs.Fold.{fold-keeps}
-use Rattle.lists.proofs.Pairs.{getD-pairs}
 use Rattle.lists.proofs.Parts.{part-behind}
 use Rattle.lists.proofs.Tab.{tab-of}
-use Rattle.refusal.proofs.Same.{says-same}
-use Rattle.record.specs.Entry.{sizeHolds, headTests, ReadsHead}
 use Rattle.record.specs.Faults.{formOf, stepped, onward, walkOf, walkSaid}
 use Rattle.record.specs.Kinds.{lengthOf, inFours, inWhole, known, kindOf, lengthKnown}
-use Rattle.record.specs.Modes.{packed, unpaired}
-use Rattle.record.specs.Numbers.{bytesOf, numberAt, levelBytes}
-use Rattle.record.specs.Records.{summed, sumHolds, headLength, headOf, headMark, frontWith, recordWith, levelWith, allLevelsIn, recordOf, recordWhole, numberIn, qpIn, isWhole, wholeModeIn, modeIn, levelIn, levelsIn, lengthIn, firstIn, recordAt, recordPlace}
-use Rattle.record.specs.Sum.{recordSum}
+use Rattle.octets.specs.Modes.{packed, unpaired}
+use Rattle.octets.specs.Numbers.{bytesOf, numberAt, levelBytes}
+use Rattle.octets.specs.Sum.{summed, sumHolds}
+use Rattle.record.specs.Records.{frontWith, recordWith, levelWith, allLevelsIn, recordOf, recordWhole, numberIn, qpIn, isWhole, wholeModeIn, modeIn, levelIn, levelsIn, lengthIn, firstIn, recordAt, recordPlace}
+use Rattle.octets.specs.Sum.{recordSum}
 use Rattle.record.specs.declared.Form.the-variants.{Fine}
 use Rattle.record.specs.declared.Form.{Form}
 use Rattle.record.specs.declared.Walk.the-variants.{Whole}
-use Rattle.record.specs.declared.Head.{Head}
-use Rattle.record.specs.declared.Head.the-variants.{Legal}
 use Rattle.record.specs.declared.Kind.{Kind}
 use Rattle.record.specs.declared.Walk.{Walk}
 use Rattle.record.proofs.Forms.{fine}
-use Rattle.record.proofs.Heads.{head-legal, same-head}
-use Rattle.record.proofs.Levels.{highAt, lowAt, length-levels, levels-by-two}
+use Rattle.octets.proofs.Back.{number-behind, number-before, number-level, sum-own}
+use Rattle.octets.proofs.Levels.{length-levels}
 use Rattle.record.proofs.Marks.{front-known, longest-known, fours, wholes, length-there}
-use Rattle.record.proofs.Modes.{length-packed, packed-back}
+use Rattle.octets.proofs.Modes.{length-packed, packed-back}
 use Rattle.record.proofs.Walks.{end-known}
-
--- ---- numbers in lists one behind the other
-
--- a number of the second list
-number-behind : (a b : List ℕ) (k : ℕ) → numberAt (length a + k) (a ++ b) ≡ numberAt k b
-number-behind a b k =
-    let z : length a + k + 1 ≡ length a + (k + 1) = omega arith in
-    rw (z, getD-append-add a b k 0, getD-append-add a b (k + 1) 0)
-
--- and of the first
-number-before : (a b : List ℕ) (k : ℕ) → k + 1 < length a → numberAt k (a ++ b) ≡ numberAt k a
-number-before a b k h = rw (List·getD-append a b 0 k (omega arith), List·getD-append a b 0 (k + 1) h)
-
-number-level : (l : List ℤ) (k : ℕ) → k < length l → numberAt (2 * k) (levelBytes l) ≡ ofZ w16 (getD l k (pos 0))
-number-level l k h =
-    let p = getD-pairs (highAt l) (lowAt l) (length l) k 0 0 h (omega arith) in
-    let q = getD-pairs (highAt l) (lowAt l) (length l) k 1 0 h (omega arith) in
-    let z : 2 * k + 0 ≡ 2 * k = omega arith in
-    rw (← (levels-by-two l)) (omega (arith, rw z at p, q))
-
--- ---- a record with its sum
-
-pub sum-own : (l : List ℕ) → sumHolds (summed l) ≡ true
-unfolding sumHolds summed
-sum-own l =
-    let e : length (l ++ bytesOf (recordSum l)) - 2 ≡ length l + 0 = omega (arith, length-append l (bytesOf (recordSum l))) in
-    let z : length l ≡ length l + 0 = omega arith in
-    let n : numberAt (length l + 0) (l ++ bytesOf (recordSum l)) ≡ recordSum l = number-behind l (bytesOf (recordSum l)) 0 ∙ omega arith in
-    rw e (rw (take-at l (bytesOf (recordSum l)) (length l + 0) z) (eq-eqb _ _ n))
-
--- ---- a head, whatever stands behind it
-
-module _ (width height : ℕ) where
-  pub length-head : length (headOf width height) ≡ headLength
-  unfolding headOf summed
-  length-head = refl
-
-  module _ (rest : List ℕ) where
-    pub width-back : numberAt 2 (headOf width height ++ rest) ≡ width
-    unfolding headOf summed
-    width-back = omega arith
-
-    pub height-back : numberAt 4 (headOf width height ++ rest) ≡ height
-    unfolding headOf summed
-    height-back = omega arith
-
-    head-sums : sumHolds (take headLength (headOf width height ++ rest)) ≡ true
-    unfolding headOf
-    head-sums = rw (take-at (headOf width height) rest headLength length-head) (sum-own _)
-
-    head-marked : numberAt 0 (headOf width height ++ rest) ≡ headMark
-    unfolding headOf summed
-    head-marked = refl
-
-    pub head-own : sizeHolds width height ≡ true → chain (headTests (headOf width height ++ rest)) ≡ pass
-    head-own s =
-        head-legal (headOf width height ++ rest) (omega (arith, length-append (headOf width height) rest, length-head)) head-marked head-sums
-        (rw (width-back, height-back) s)
-
-    -- what `read_head` answers, whatever its contract allows
-    pub head-back : sizeHolds width height ≡ true → (h : Head) → ReadsHead (headOf width height ++ rest) h → h ≡ Legal width height height headLength
-    head-back s h p =
-        let e = head-own s in
-        same-head h (Legal width height height headLength) (says-same (p .says) ∙ e)
-        (holds-new 0 e (p .width) ∙ width-back)
-        (holds-new 0 e (p .height) ∙ height-back)
-        (holds-new 0 e (p .rows) ∙ height-back)
-        (holds-new 0 e (p .long))
 
 -- ---- a record of any kind
 

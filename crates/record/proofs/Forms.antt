@@ -14,10 +14,11 @@ use Rattle.lists.specs.Chain.{Verdict, pass, stop, chain}
 use Rattle.lists.proofs.Chain.{chain-exactly-if}
 use Rattle.record.specs.Faults.{formTests, formed, formOf}
 use Rattle.record.specs.Kinds.{lengthOf, known, kindOf, isKnown, lengthKnown, recordLength}
-use Rattle.record.specs.Numbers.{numberAt}
-use Rattle.record.specs.Records.{numberIn, sumHolds, lengthIn, firstIn}
-use Rattle.record.specs.declared.Fault.the-variants.{CutMark, Mark, CutRest, Number, Sum}
-use Rattle.record.specs.declared.Fault.{Fault}
+use Rattle.octets.specs.Numbers.{numberAt}
+use Rattle.record.specs.Records.{numberIn, lengthIn, firstIn}
+use Rattle.octets.specs.Sum.{sumHolds}
+use Rattle.refusal.specs.declared.Fault.the-variants.{CutMark, Mark, CutRest, Number, Sum}
+use Rattle.refusal.specs.declared.Fault.{Fault}
 use Rattle.record.specs.declared.Form.the-variants.{Fine, Faulty}
 use Rattle.record.specs.declared.Kind.{Kind}
 use Rattle.record.proofs.Marks.{unknown-none, known-some, length-known, kind-known, length-there}

@@ -18,7 +18,7 @@ use borrow.Author.Tests.{ne-eqb, le-leb, lt-leb}
 use lib.Dec.{eqb}
 use lib.ListN.{length}
 use Rattle.record.specs.Kinds.{lengthOf, inFours, inWhole, kinds, Known, unknown, known, kindIn, kindOf, isKnown, lengthKnown, recordLength}
-use Rattle.record.specs.Numbers.{numberAt}
+use Rattle.octets.specs.Numbers.{numberAt}
 use Rattle.record.specs.Records.{lengthIn}
 use Rattle.record.specs.declared.Kind.{Kind}
 

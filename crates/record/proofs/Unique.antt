@@ -5,20 +5,11 @@ use Prim.Native.Nat.{ℕ}
 use lib.IntN.{ℤ}
 use denote.Ref.{now}
 use Rattle.unique.specs.Unique.{Unique}
-use Rattle.refusal.proofs.Same.{same-answer, says-same}
-use Rattle.record.proofs.Heads.{same-head}
-use Rattle.record.proofs.read_head.Kinds as read-head
-use Rattle.record.proofs.read_head.Reads as read-head-reads
-use Rattle.record.proofs.inner.size_holds.Kinds as size-holds
-use Rattle.record.proofs.inner.size_holds.Reads as size-holds-reads
+use Rattle.refusal.proofs.Same.{same-answer}
 use Rattle.record.proofs.inner.fours_length.Kinds as fours-length
 use Rattle.record.proofs.inner.fours_length.Reads as fours-length-reads
 use Rattle.record.proofs.inner.whole_length.Kinds as whole-length
 use Rattle.record.proofs.inner.whole_length.Reads as whole-length-reads
-use Rattle.record.proofs.inner.area_length.Kinds as area-length
-use Rattle.record.proofs.inner.area_length.Reads as area-length-reads
-use Rattle.record.proofs.inner.write_head.Kinds as write-head
-use Rattle.record.proofs.inner.write_head.Reads as write-head-reads
 use Rattle.record.proofs.inner.write_fours.Kinds as write-fours
 use Rattle.record.proofs.inner.write_fours.Reads as write-fours-reads
 use Rattle.record.proofs.inner.write_whole.Kinds as write-whole
@@ -40,27 +31,11 @@ use Rattle.record.proofs.inner.length_from.Reads as length-from-reads
 use Rattle.record.proofs.inner.walked.Kinds as walked
 use Rattle.record.proofs.inner.walked.Reads as walked-reads
 
-pub read-head-unique : Unique 1 read-head.ps read-head.r read-head-reads.Learnt (Unit {0}) (λ κs e. tt)
-read-head-unique κs a x y e f p q = (
-  same-head x y (says-same (p .says) ∙ sym (says-same (q .says))) (p .width ∙ sym (q .width)) (p .height ∙ sym (q .height)) (p .rows ∙ sym (q .rows))
-      (p .long ∙ sym (q .long)),
-  refl,
-)
-
-pub size-holds-unique : Unique 0 size-holds.ps size-holds.r size-holds-reads.Learnt (Unit {0}) (λ κs e. tt)
-size-holds-unique κs a x y e f p q = (p ∙ sym q, refl)
-
 pub fours-length-unique : Unique 0 fours-length.ps fours-length.r fours-length-reads.Learnt (Unit {0}) (λ κs e. tt)
 fours-length-unique κs a x y e f p q = (p ∙ sym q, refl)
 
 pub whole-length-unique : Unique 0 whole-length.ps whole-length.r whole-length-reads.Learnt (Unit {0}) (λ κs e. tt)
 whole-length-unique κs a x y e f p q = (p ∙ sym q, refl)
-
-pub area-length-unique : Unique 0 area-length.ps area-length.r area-length-reads.Learnt (Unit {0}) (λ κs e. tt)
-area-length-unique κs a x y e f p q = (p ∙ sym q, refl)
-
-pub write-head-unique : Unique 1 write-head.ps write-head.r write-head-reads.Learnt (List ℕ) (λ κs e. now (e .1 .1 .0))
-write-head-unique κs a x y e f p q = (p .1 ∙ sym (q .1), p .0 ∙ sym (q .0))
 
 pub write-fours-unique : Unique 2 write-fours.ps write-fours.r write-fours-reads.Learnt (List ℕ) (λ κs e. now (e .1 .1 .1 .1 .0))
 write-fours-unique κs a x y e f p q = (refl, p ∙ sym q)

@@ -27,11 +27,12 @@ use Rattle.lists.specs.Fold.{fold}
 use Rattle.lists.proofs.Chain.{pass-not-stop, chain-exactly-if}
 use Rattle.lists.proofs.Fold.{fold-more}
 use Rattle.refusal.specs.declared.Refusal.{Refusal}
-use Rattle.record.specs.Faults.{formTests, formed, formOf, stepped, onward, walkOf, refusalOf, surplus, leftTests, walkSaid}
+use Rattle.record.specs.Faults.{formTests, formed, formOf, stepped, onward, walkOf, surplus, leftTests, walkSaid}
+use Rattle.refusal.specs.Faults.{refusalOf}
 use Rattle.record.specs.Kinds.{lengthOf, inFours, inWhole, known, kindOf}
-use Rattle.record.specs.Numbers.{numberAt}
+use Rattle.octets.specs.Numbers.{numberAt}
 use Rattle.record.specs.Records.{isWhole, lengthFrom, recordAt, recordPlace}
-use Rattle.record.specs.declared.Fault.{Fault}
+use Rattle.refusal.specs.declared.Fault.{Fault}
 use Rattle.record.specs.declared.Form.the-variants.{Fine}
 use Rattle.record.specs.declared.Kind.{Kind}
 use Rattle.record.specs.declared.Walk.{Walk}

@@ -1,4 +1,4 @@
--- Heads, marks and cut files at which a faulty definition would answer otherwise, computed from the definitions that the contracts cite. Assumes nothing.
+-- Marks and cut files at which a faulty definition would answer otherwise, computed from the definitions that the contracts cite. Assumes nothing.
 use mathlib.Core.Path.{_≡_, refl}
 use mathlib.Core.List.{List, [], _∷_}
 use Prim.Native.Nat.{ℕ, _+_, _*_}
@@ -7,23 +7,15 @@ use lib.ListN.{replicate, set}
 use Rattle.lists.specs.Chain.{pass, stop, chain}
 use Rattle.lists.specs.Fold.{fold}
 use Rattle.lists.specs.Tab.{tab}
-use Rattle.refusal.specs.Number.{number}
-use Rattle.record.specs.Entry.{headTests, sizeHolds}
 use Rattle.record.specs.Faults.{formTests, formOf, walkOf}
 use Rattle.record.specs.Kinds.{kindOf, recordLength}
-use Rattle.record.specs.Modes.{packed}
-use Rattle.record.specs.Numbers.{levelBytes}
-use Rattle.record.specs.Records.{headOf, recordOf, recordWith, summed, sumHolds, lengthIn}
-use Rattle.record.specs.Sum.{sumOf}
-use Rattle.record.specs.declared.Fault.the-variants.{CutMark, Mark, CutRest, Number, Sum}
+use Rattle.octets.specs.Modes.{packed}
+use Rattle.octets.specs.Numbers.{levelBytes}
+use Rattle.record.specs.Records.{recordOf, recordWith, lengthIn}
+use Rattle.octets.specs.Sum.{summed, sumHolds}
+use Rattle.octets.specs.Sum.{sumOf}
+use Rattle.refusal.specs.declared.Fault.the-variants.{CutMark, Mark, CutRest, Number, Sum}
 use Rattle.record.specs.declared.Walk.the-variants.{Broken}
-
--- "1 to 128 macroblocks": numbers at the ends and one beyond, and of a file without a head
-pub heads-refused :
-    number (chain (headTests (headOf 0 1))) ∷ number (chain (headTests (headOf 1 128))) ∷ number (chain (headTests (headOf 1 129))) ∷ number (chain (headTests [])) ∷ []
-    ≡ 8 ∷ 0 ∷ 8 ∷ 9 ∷ []
-unfolding headOf summed sumOf sumHolds sizeHolds
-heads-refused = refl
 
 -- a record's length by its mark: "527 bytes", "520 bytes", and none
 pub lengths : recordLength (77 * 256 + 66) ∷ recordLength (77 * 256 + 54) ∷ recordLength (77 * 256 + 67) ∷ [] ≡ 527 ∷ 520 ∷ 0 ∷ []

@@ -8,26 +8,19 @@ use lib.Dec.{eqb, leb}
 use lib.ListN.{length, drop}
 use Rattle.lists.specs.Chain.{Test, test, Verdict, pass, stop, chain}
 use Rattle.lists.specs.Fold.{fold}
+use Rattle.refusal.specs.Faults.{refusalOf}
 use Rattle.refusal.specs.declared.Refusal.the-variants as refusal
 use Rattle.refusal.specs.declared.Refusal.{Refusal}
 use Rattle.record.specs.Kinds.{kindOf, isKnown}
-use Rattle.record.specs.Numbers.{numberAt}
-use Rattle.record.specs.Records.{numberIn, sumHolds, lengthIn, firstIn, lengthFrom}
-use Rattle.record.specs.declared.Fault.the-variants.{CutMark, Mark, CutRest, Number, Sum}
-use Rattle.record.specs.declared.Fault.{Fault}
+use Rattle.octets.specs.Numbers.{numberAt}
+use Rattle.record.specs.Records.{numberIn, lengthIn, firstIn, lengthFrom}
+use Rattle.octets.specs.Sum.{sumHolds}
+use Rattle.refusal.specs.declared.Fault.the-variants.{CutMark, Mark, CutRest, Number, Sum}
+use Rattle.refusal.specs.declared.Fault.{Fault}
 use Rattle.record.specs.declared.Form.the-variants.{Fine, Faulty}
 use Rattle.record.specs.declared.Form.{Form}
 use Rattle.record.specs.declared.Walk.the-variants.{Whole, Broken}
 use Rattle.record.specs.declared.Walk.{Walk}
-
--- number and place of a fault in the record that begins at a place and is so long, in a file of so many bytes: mark, number and sum have
--- "the record's first byte" (01), a cut "the file length" (02, request 01)
-abbrev pub refusalOf : Fault → ℕ → ℕ → ℕ → Refusal
-refusalOf CutMark place long total = refusal.Form total
-refusalOf Mark place long total = refusal.Form place
-refusalOf CutRest place long total = refusal.Form total
-refusalOf Number place long total = refusal.Form place
-refusalOf Sum place long total = refusal.Form place
 
 -- bytes after the last record, in a file of so many bytes (02, request 01)
 abbrev pub surplus : ℕ → Refusal

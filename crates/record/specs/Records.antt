@@ -1,37 +1,17 @@
 -- The records of the file (01, "Plane and record file"; 02, request 01). Assumes nothing.
 use mathlib.Core.Bool.{Bool, cond}
 use mathlib.Core.List.{List, [], _∷_, _++_}
-use Prim.Native.Nat.{ℕ, _+_, _-_, _*_, _/_}
+use Prim.Native.Nat.{ℕ, _+_, _*_, _/_}
 use lib.Dec.{eqb, leb}
 use lib.IntN.{ℤ}
 use lib.ListN.{length, take, drop, getD}
 use Rattle.lists.specs.Fold.{fold}
 use Rattle.lists.specs.Tab.{tab}
-use Rattle.record.specs.Kinds.{lengthOf, inFours, inWhole, recordLength}
-use Rattle.record.specs.Modes.{packed, unpaired}
-use Rattle.record.specs.Numbers.{bytesOf, numberAt, levelBytes, levelAt}
-use Rattle.record.specs.Sum.{recordSum}
+use Rattle.record.specs.Kinds.{inFours, inWhole, recordLength}
+use Rattle.octets.specs.Modes.{packed, unpaired}
+use Rattle.octets.specs.Numbers.{bytesOf, numberAt, levelBytes, levelAt}
+use Rattle.octets.specs.Sum.{summed}
 use Rattle.record.specs.declared.Kind.{Kind}
-
--- "Every record starts with a two-byte mark and ends with a two-byte sum: all earlier bytes of the record"
-unfoldable pub summed : List ℕ → List ℕ
-summed bytes = bytes ++ bytesOf (recordSum bytes)
-
--- the last two bytes are the sum of the earlier ones
-unfoldable pub sumHolds : List ℕ → Bool
-sumHolds bytes = eqb (numberAt (length bytes - 2) bytes) (recordSum (take (length bytes - 2) bytes))
-
--- 48 44
-abbrev pub headMark : ℕ
-headMark = 72 * 256 + 68
-
--- "Head, 8 bytes"
-abbrev pub headLength : ℕ
-headLength = 8
-
--- "Head, 8 bytes: 48 44, width, height (two bytes each, in macroblocks), sum."
-unfoldable pub headOf : ℕ → ℕ → List ℕ
-headOf width height = summed (bytesOf headMark ++ bytesOf width ++ bytesOf height)
 
 -- what stands before the levels of a record of a kind: its mark, its number, and what this kind has besides
 abbrev pub frontWith : Kind → ℕ → List ℕ → List ℕ
@@ -102,7 +82,3 @@ recordAt place file = firstIn (drop place file)
 -- where record m begins, if record 0 begins at a place: each says by its mark how long it is
 unfoldable pub recordPlace : ℕ → List ℕ → ℕ → ℕ
 recordPlace m file start = fold m (λ k place. place + lengthFrom place file) start
-
--- "The area lent to the coder for the file counts 527 for each macroblock, with the head" (02, request 01)
-abbrev pub areaLength : ℕ → ℕ
-areaLength count = headLength + lengthOf inFours * count

@@ -1,30 +1,21 @@
-// Heads and macroblock records in lent parts, the form of a record, and the walk over records. Lengths are the caller's.
+// Macroblock records in lent parts, the form of a record, and the walk over records. Lengths are the caller's.
 ghost use mathlib.Core.List.{_∷_};
 ghost use mathlib.Core.Path.{_≡_};
-ghost use Prim.Native.Nat.{ℕ, _+_, _-_, _*_, _<_, _≤_};
+ghost use Prim.Native.Nat.{ℕ, _+_, _-_, _*_, _<_};
 ghost use lib.IntN.{pos};
 ghost use lib.ListN.{length, drop, getD};
 ghost use mir.Syntax.{w16};
 ghost use mir.Val.{SFits};
-ghost use Rattle.lists.specs.Parts.{over};
 ghost use Rattle.refusal.specs.Number.{said};
-ghost use Rattle.record.specs.Entry.{sizeHolds};
-ghost use Rattle.record.specs.Faults.{refusalOf, formOf, walkOf, walkSaid};
+ghost use Rattle.record.specs.Faults.{formOf, walkOf, walkSaid};
 ghost use Rattle.record.specs.Kinds.{lengthOf, inFours, inWhole, recordLength};
-ghost use Rattle.record.specs.Numbers.{levelBytes, levelAt};
-ghost use Rattle.record.specs.Records.{headLength, headOf, frontWith, recordWith, recordOf, recordWhole, allLevelsIn, qpIn, isWhole, wholeModeIn, modeIn, levelIn, levelsIn, lengthFrom, areaLength};
-use crate::Fault;
+ghost use Rattle.record.specs.Records.{frontWith, recordWith, recordOf, recordWhole, allLevelsIn, qpIn, isWhole, wholeModeIn, modeIn, levelIn, levelsIn, lengthFrom};
 use crate::Form;
 use crate::Kind;
 use crate::Walk;
-use crate::octets;
 use refusal::Answer;
+use refusal::Fault;
 use refusal::Refusal;
-
-// 48 44
-pub(crate) const HEAD_MARK: u16 = 72 * 256 + 68;
-
-pub(crate) const HEAD_LENGTH: usize = 8;
 
 // A macroblock's record of 4x4 blocks: 4D 42; five bytes and the eight of the modes; the levels of sixteen blocks.
 const FOURS: Kind = Kind {
@@ -39,22 +30,6 @@ const WHOLE: Kind = Kind {
     front: 5 + 1,
     levels: 256,
 };
-
-// Whether both are 1 to 128.
-pub fn size_holds(width: usize, height: usize) -> bool
-    ensures { λ r. ⌜ r ≡ sizeHolds width height ⌝ }
-{
-    if width < 1 {
-        return false;
-    }
-    if 128 < width {
-        return false;
-    }
-    if height < 1 {
-        return false;
-    }
-    height <= 128
-}
 
 // ---- lengths
 
@@ -80,51 +55,7 @@ pub fn whole_length() -> usize
     length_of(WHOLE)
 }
 
-// How long the area is that the coder is lent for the file of so many macroblocks.
-pub fn area_length(count: usize) -> usize
-    requires { ⌜ count ≤ 16384 ⌝ }
-    ensures { λ r. ⌜ r ≡ areaLength count ⌝ }
-{
-    HEAD_LENGTH + fours_length() * count
-}
-
 // ---- writing
-
-// The head of a picture into its own bytes.
-fn fill_head(width: u16, height: u16, head: &mut [u8])
-    requires { ⌜ length (now head) ≡ headLength ⌝ }
-    ensures { λ _. ⌜ now (head .exit) ≡ headOf width height ⌝ }
-{
-    head[0] = (HEAD_MARK / 256) as u8;
-    head[1] = (HEAD_MARK % 256) as u8;
-    head[2] = (width / 256) as u8;
-    head[3] = (width % 256) as u8;
-    head[4] = (height / 256) as u8;
-    head[5] = (height % 256) as u8;
-    octets::write_sum(head);
-}
-
-// The head of a picture over the front of a file area; answers the place behind it.
-pub fn write_head(width: u16, height: u16, file: &mut [u8]) -> usize
-    requires { ⌜ headLength ≤ length (now file) ⌝ }
-    ensures { λ _. ⌜ now (file .exit) ≡ over (headOf width height) (now (file .entry)) ⌝ }
-    ensures { λ r. ⌜ r ≡ headLength ⌝ }
-{
-    fill_head(width, height, &mut file[0..HEAD_LENGTH]);
-    HEAD_LENGTH
-}
-
-// Levels, of whatever number, into two bytes each.
-fn write_levels(levels: &[i32], out: &mut [u8])
-    requires { ⌜ (length (now out) ≡ 2 * length (now levels)) × ((k : ℕ) → SFits w16 (getD (now levels) k (pos 0))) ⌝ }
-    ensures { λ _. ⌜ now (out .exit) ≡ levelBytes (now (levels .entry)) ⌝ }
-{
-    for k in 0usize..levels.len() {
-        let bits = octets::bits_of(levels[k]);
-        out[2 * k] = (bits / 256) as u8;
-        out[2 * k + 1] = (bits % 256) as u8;
-    }
-}
 
 // What stands before the levels of a record of a kind, into its own bytes: mark, number, QP, and what this kind has besides.
 fn write_front(kind: Kind, number: u16, qp: u8, more: &[u8], front: &mut [u8])
@@ -149,8 +80,8 @@ fn write_record(kind: Kind, number: u16, qp: u8, more: &[u8], levels: &[i32], pa
     let front = kind.front;
     let end = front + 2 * kind.levels;
     write_front(kind, number, qp, more, &mut part[0..front]);
-    write_levels(levels, &mut part[front..end]);
-    octets::write_sum(part);
+    octets::inner::write_levels(levels, &mut part[front..end]);
+    octets::inner::write_sum(part);
 }
 
 // A macroblock's record of 4x4 blocks.
@@ -159,7 +90,7 @@ pub fn write_fours(number: u16, qp: u8, modes: [u8; 16], levels: &[i32], part: &
     requires { ⌜ (length (now levels) ≡ inFours .levels) × ((k : ℕ) → SFits w16 (getD (now levels) k (pos 0))) ⌝ }
     ensures { λ _. ⌜ now (part .exit) ≡ recordOf number qp modes (now (levels .entry)) ⌝ }
 {
-    let more = octets::packed(modes);
+    let more = octets::inner::packed(modes);
     write_record(FOURS, number, qp, &more, levels, part);
 }
 
@@ -187,7 +118,7 @@ pub fn is_whole(part: &[u8]) -> bool
     requires { ⌜ 1 < length (now part) ⌝ }
     ensures { λ r. ⌜ r ≡ isWhole (now (part .entry)) ⌝ }
 {
-    octets::number_at(part, 0) == WHOLE.mark
+    octets::inner::number_at(part, 0) == WHOLE.mark
 }
 
 // The mode of a record of 16x16.
@@ -203,15 +134,7 @@ pub fn mode(part: &[u8], block: usize) -> u8
     requires { ⌜ (length (now part) ≡ lengthOf inFours) × (block < 16) ⌝ }
     ensures { λ r. ⌜ r ≡ modeIn block (now (part .entry)) ⌝ }
 {
-    octets::unpack(part[5 + block / 2], block)
-}
-
-// Level i of a record that has so many bytes before its levels.
-fn level_at(part: &[u8], front: usize, i: usize) -> i32
-    requires { ⌜ front + 2 * i + 1 < length (now part) ⌝ }
-    ensures { λ r. ⌜ r ≡ levelAt (front + 2 * i) (now (part .entry)) ⌝ }
-{
-    octets::level_of(octets::number_at(part, front + 2 * i))
+    octets::inner::unpack(part[5 + block / 2], block)
 }
 
 // Level k of a block, in zigzag order.
@@ -219,7 +142,7 @@ fn level(part: &[u8], block: usize, k: usize) -> i32
     requires { ⌜ (length (now part) ≡ lengthOf inFours) × (block < 16) × (k < 16) ⌝ }
     ensures { λ r. ⌜ r ≡ levelIn block k (now (part .entry)) ⌝ }
 {
-    level_at(part, FOURS.front, 16 * block + k)
+    octets::inner::level_at(part, FOURS.front, 16 * block + k)
 }
 
 // The sixteen levels of a block, in zigzag order.
@@ -240,24 +163,11 @@ pub fn whole_levels(part: &[u8], out: &mut [i32])
     ensures { λ _. ⌜ now (out .exit) ≡ allLevelsIn inWhole (now (part .entry)) ⌝ }
 {
     for i in 0usize..WHOLE.levels {
-        out[i] = level_at(part, WHOLE.front, i);
+        out[i] = octets::inner::level_at(part, WHOLE.front, i);
     }
 }
 
 // ---- faults
-
-// Number and place of a fault in the record that begins at a place and is so long, in a file of so many bytes.
-pub(crate) fn refusal(fault: Fault, place: usize, long: usize, total: usize) -> Refusal
-    ensures { λ r. ⌜ r ≡ refusalOf fault place long total ⌝ }
-{
-    match fault {
-        Fault::CutMark => Refusal::Form(total),
-        Fault::Mark => Refusal::Form(place),
-        Fault::CutRest => Refusal::Form(total),
-        Fault::Number => Refusal::Form(place),
-        Fault::Sum => Refusal::Form(place),
-    }
-}
 
 // How long a record with a mark is, 0 where there is no such record.
 fn record_length(mark: u16) -> usize
@@ -289,7 +199,7 @@ pub fn length_from(file: &[u8], place: usize) -> usize
     if left(file, place) < 2 {
         return 0;
     }
-    record_length(octets::number_at(file, place))
+    record_length(octets::inner::number_at(file, place))
 }
 
 // The form of the record that begins at a place and is to have a number.
@@ -300,17 +210,17 @@ fn form(file: &[u8], place: usize, number: usize) -> Form
     if rest < 2 {
         return Form::Faulty(Fault::CutMark);
     }
-    let long = record_length(octets::number_at(file, place));
+    let long = record_length(octets::inner::number_at(file, place));
     if long < 1 {
         return Form::Faulty(Fault::Mark);
     }
     if rest < long {
         return Form::Faulty(Fault::CutRest);
     }
-    if (octets::number_at(file, place + 2) as usize) != number {
+    if (octets::inner::number_at(file, place + 2) as usize) != number {
         return Form::Faulty(Fault::Number);
     }
-    if !octets::sum_holds(&file[place..place + long]) {
+    if !octets::inner::sum_holds(&file[place..place + long]) {
         return Form::Faulty(Fault::Sum);
     }
     Form::Fine(long)
@@ -341,7 +251,7 @@ pub fn walked(file: &[u8], start: usize, count: usize) -> Answer
     match walk(file, start, count) {
         Walk::Broken(fault, place) => {
             let long = length_from(file, place);
-            Answer::Refused(refusal(fault, place, long, file.len()))
+            Answer::Refused(refusal::inner::of_fault(fault, place, long, file.len()))
         }
         Walk::Whole(end) => {
             if end < file.len() {

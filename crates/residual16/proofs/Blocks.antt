@@ -1,10 +1,10 @@
 -- A macroblock's samples block by block.
 --     among                                          each block is one of the picture of one macroblock
 --     Putting: putting-none, putting-more, putting-done     a loop over b that puts `make b` into block b
---     length-blocks, blocks-bytes, part-of-blocks    an area by its blocks: 256 samples; bytes; block b is `make b`
+--     blocks-bytes, part-of-blocks                   an area by its blocks: bytes; block b is `make b`
 --     stored-by-table                                numbers stored by the places of their blocks, in raster order
 -- Assumes nothing.
-use mathlib.Core.Path.{_≡_, refl, sym, ap, _∙_}
+use mathlib.Core.Path.{_≡_, sym, ap, _∙_}
 use mathlib.Core.List.{List}
 use mathlib.Core.Logic.{⊎-elim}
 use Prim.Native.Nat.{ℕ, _+_, _*_, _-_, _/_, _%_, _<_, _≤_, zero-le}
@@ -19,7 +19,7 @@ use Rattle.lists.specs.Tab.{tab, grid, inRaster}
 use Rattle.lists.proofs.Bytes.{bytes-grid}
 use Rattle.lists.proofs.Every.{every-at}
 use Rattle.lists.proofs.Stores.{length-stores, getD-stores-at}
-use Rattle.lists.proofs.Tab.{length-tab, getD-grid, tab-of}
+use Rattle.lists.proofs.Tab.{getD-grid, tab-of}
 use Rattle.picture.specs.Order.{Among, covers, blockTable, tablePlace, blockIn, columnIn, rowIn, orderAt, blockColumn, blockRow}
 use Rattle.picture.specs.Plane.{blockAt, blockOf, withBlock}
 use Rattle.picture.proofs.Blocks.{inner-facts, starts-four, block-lt}
@@ -28,7 +28,7 @@ use Rattle.picture.proofs.Plane.{length-stored}
 use Rattle.residual16.specs.Area.{one, byBlocks}
 
 pub among : (b : ℕ) → b < 16 → Among one 0 b
-among b h = record { sound = record { some = omega arith; wide = omega arith; high = omega arith; whole = refl }; macroblock = omega arith; block = h }
+among b h = record { sound = record { some = omega arith; wide = omega arith; high = omega arith; rows = omega arith }; macroblock = omega arith; block = h }
 
 some : 0 < 1
 some = omega arith
@@ -83,10 +83,6 @@ module _ (make : ℕ → List ℕ) where
   putting-done {area} {b} p h =
       sym (tab-of 256 (inRaster 16 (λ x y. getD (make (orderAt one x y)) (4 * (y % 4) + x % 4) 0)) area 0 (p .long)
       (λ i l. sym (p .is i l (omega (arith, order-lt one (i % 16) (i / 16) (omega arith) (omega arith))))))
-
-  pub length-blocks : length (byBlocks make) ≡ 256
-  unfolding byBlocks grid
-  length-blocks = length-tab 256 _
 
   pub blocks-bytes : ((b : ℕ) → Bytes (make b)) → Bytes (byBlocks make)
   unfolding byBlocks

@@ -3,7 +3,7 @@
 --     ac-each, places-small                 a bound of the levels is one of a block's AC levels behind a 0, also in raster places
 --     ac-step, step-some                    where the code finds an AC level
 --     values-fit, numbers-fit               what the two tests of RANGE say of the numbers
---     length-sixteen, sixteen-bytes         what is rebuilt: 256 bytes
+--     sixteen-bytes                         what is rebuilt: bytes
 -- Assumes nothing.
 use mathlib.Core.Path.{_≡_, sym, ap, _∙_}
 use mathlib.Core.Bool.{true, not, _||_}
@@ -32,7 +32,7 @@ use Rattle.residual.proofs.Order.{places-each}
 use Rattle.dc.specs.Dc.{lumaValues, lumaScaled}
 use Rattle.block.proofs.Laws.{bytes-samples}
 use Rattle.residual16.specs.Rebuilt.{acIn, valuesIn, blockSamples, sixteenSamples, dcFits, acNumbers, acFits, firstAc}
-use Rattle.residual16.proofs.Blocks.{length-blocks, blocks-bytes}
+use Rattle.residual16.proofs.Blocks.{blocks-bytes}
 
 pub each-first : (B : ℕ) (l : List ℤ) (y z : ℤ) → Each B (set l 0 y) → Within B z → Each B (set l 0 z)
 each-first B [] y z h w = tt
@@ -82,10 +82,6 @@ module _ (qp : ℕ) (levels : List ℤ) where
 -- ---- what is rebuilt
 
 module _ (qp : ℕ) (prediction : List ℕ) (levels : List ℤ) where
-  pub length-sixteen : length (sixteenSamples qp prediction levels) ≡ 256
-  unfolding sixteenSamples
-  length-sixteen = length-blocks (blockSamples qp prediction levels)
-
   pub sixteen-bytes : Bytes (sixteenSamples qp prediction levels)
   unfolding sixteenSamples blockSamples
   sixteen-bytes = blocks-bytes (blockSamples qp prediction levels) (λ b. bytes-samples _ _)

@@ -16,7 +16,7 @@ use Rattle.lists.proofs.First.{first-before}
 use Rattle.lists.proofs.Chain.{chain-exactly-if, holds-new}
 use Rattle.lists.proofs.Total.{total-low, term-low}
 use Rattle.refusal.proofs.Same.{says-same}
-use Rattle.record.specs.Entry.{sizeHolds}
+use Rattle.head.specs.Entry.{sizeHolds}
 use Rattle.picture.specs.Plane.{layoutOf}
 use Rattle.sheet.specs.Entry.{firstFlag, planeTests, sheetTests, saidSheeted, givenIn, Sheets}
 use Rattle.sheet.specs.Errors.{isPresent, presentCount}

@@ -16,7 +16,7 @@ use lib.ListN.{replicate}
 use Rattle.lists.specs.Chain.{stop, chain}
 use Rattle.lists.specs.First.{first}
 use Rattle.lists.specs.Total.{total}
-use Rattle.record.specs.Entry.{sizeHolds}
+use Rattle.head.specs.Entry.{sizeHolds}
 use Rattle.refusal.specs.declared.Refusal.the-variants as refusal
 use Rattle.picture.specs.Order.{blockTable, tablePlace, columnIn, rowIn, blockColumn, blockRow}
 use Rattle.picture.specs.Plane.{layoutOf}

@@ -11,7 +11,7 @@ use Rattle.refusal.specs.Number.{Says}
 use Rattle.refusal.specs.Tests.{lengthTest}
 use Rattle.refusal.specs.declared.Refusal.{Refusal}
 use Rattle.refusal.specs.declared.Refusal.the-variants as refusal
-use Rattle.record.specs.Entry.{sizeHolds}
+use Rattle.head.specs.Entry.{sizeHolds}
 use Rattle.picture.specs.Plane.{layoutOf, planeLength}
 use Rattle.sheet.specs.Means.{Given, nothing, given, givenOf, areaOf}
 use Rattle.sheet.specs.declared.Sheeted.{Sheeted}

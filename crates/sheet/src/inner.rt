@@ -41,7 +41,7 @@ pub fn write_sheet(
 ) -> Sheeted
     ensures { λ r. ⌜ Writes width height (now (original .entry)) (now (rebuilt .entry)) (now (map .entry)) (now (out .entry)) r (now (out .exit)) ⌝ }
 {
-    if !record::inner::size_holds(width, height) {
+    if !head::inner::size_holds(width, height) {
         return Sheeted::Refused(Refusal::Size);
     }
     if out.len() != 3 {

@@ -31,7 +31,7 @@ pub fn quality_sheet(
 ) -> Sheeted
     ensures { λ r. ⌜ Sheets width height (now (original .entry)) (now (rebuilt .entry)) (now (map .entry)) r ⌝ }
 {
-    if !record::inner::size_holds(width, height) {
+    if !head::inner::size_holds(width, height) {
         return Sheeted::Refused(Refusal::Size);
     }
     let count = width * height;

@@ -18,7 +18,7 @@ pub(crate) fn word(
     out: &mut [u8],
     more: &mut [u8],
 ) -> u64
-    requires { ⌜ length (now values) ≡ 24 ⌝ }
+    requires { ⌜ length (now values) ≡ 32 ⌝ }
 {
     match function {
         0 => fleecebutton::fb_predict(first, values[0], values[8], out),
@@ -34,22 +34,23 @@ pub(crate) fn word(
 }
 
 fn of_given_dc(values: &[u8], first: &[u8], list: &[i32], out: &mut [u8]) -> u64
-    requires { ⌜ length (now values) ≡ 24 ⌝ }
+    requires { ⌜ length (now values) ≡ 32 ⌝ }
 {
     fleecebutton::fb_rebuild_with_dc(values[0], first, frame::signed(values, 8), list, out)
 }
 
 fn of_code_plane(values: &[u8], first: &[u8], out: &mut [u8], more: &mut [u8]) -> u64
-    requires { ⌜ length (now values) ≡ 24 ⌝ }
+    requires { ⌜ length (now values) ≡ 32 ⌝ }
 {
     let width = frame::eight(values, 0) as usize;
     let height = frame::eight(values, 8) as usize;
-    fleecebutton::fb_code_plane(width, height, values[16], first, out, more)
+    let rows = frame::eight(values, 16) as usize;
+    fleecebutton::fb_code_plane(width, height, rows, values[24], first, out, more)
 }
 
 // Of the functions that take no bytes.
 fn of_numbers(function: u8, values: &[u8], list: &[i32], made: &mut [i32]) -> u64
-    requires { ⌜ length (now values) ≡ 24 ⌝ }
+    requires { ⌜ length (now values) ≡ 32 ⌝ }
 {
     match function {
         2 => fleecebutton::fb_forward(list, made),

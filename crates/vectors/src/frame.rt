@@ -11,29 +11,29 @@ pub(crate) const NUMBER_BEFORE: i32 = 1515870810;
 // The rooms: a list of numbers; a file; a plane.
 pub(crate) const NUMBERS: usize = 17;
 
-pub(crate) const FILE: usize = 8440;
+pub(crate) const FILE: usize = 8442;
 
 pub(crate) const PLANE: usize = 4096;
 
 // Where the parts begin: the arguments that are no slices, eight bytes each; the word expected; the lengths of the six slices.
-pub(crate) const WORD: usize = 24;
+pub(crate) const WORD: usize = 32;
 
-pub(crate) const LENGTHS: usize = 32;
+pub(crate) const LENGTHS: usize = 40;
 
 // The numbers lent, the numbers expected, the second and the first bytes lent, the bytes expected of both outputs.
-pub(crate) const LIST: usize = 44;
+pub(crate) const LIST: usize = 52;
 
-pub(crate) const MADE: usize = 112;
+pub(crate) const MADE: usize = 120;
 
-pub(crate) const SECOND: usize = 180;
+pub(crate) const SECOND: usize = 188;
 
-pub(crate) const FIRST: usize = 197;
+pub(crate) const FIRST: usize = 205;
 
-pub(crate) const OUT: usize = 8637;
+pub(crate) const OUT: usize = 8647;
 
-pub(crate) const MORE: usize = 17077;
+pub(crate) const MORE: usize = 17089;
 
-pub(crate) const END: usize = 21173;
+pub(crate) const END: usize = 21185;
 
 fn wide(byte: u8) -> u64
     ensures { λ r. ⌜ r < 256 ⌝ }
@@ -87,7 +87,7 @@ pub(crate) fn numbers(part: &[u8]) -> [i32; 17]
 
 // The length of a slice, cut to the room there is.
 pub(crate) fn lent(frame: &[u8], slice: usize, room: usize) -> usize
-    requires { ⌜ (slice < 6) × (length (now frame) ≡ 21173) ⌝ }
+    requires { ⌜ (slice < 6) × (length (now frame) ≡ 21185) ⌝ }
     ensures { λ r. ⌜ r ≤ room ⌝ }
 {
     let length = two(frame, LENGTHS + 2 * slice) as usize;

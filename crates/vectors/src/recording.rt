@@ -38,7 +38,7 @@ fn one_if(right: bool) -> usize
 
 // Reads a step: a place, a count, and so many bytes for there. With a count of 0 the frame is whole.
 fn completes(file: i32, frame: &mut [u8]) -> bool
-    requires { ⌜ length (now frame) ≡ 21173 ⌝ }
+    requires { ⌜ length (now frame) ≡ 21185 ⌝ }
 {
     let mut head = [0u8; 4];
     if io::read_full(file, &mut head) < 4 {
@@ -55,7 +55,7 @@ fn completes(file: i32, frame: &mut [u8]) -> bool
 
 // 1 if a whole frame's request is answered as recorded. One that is not is told by its number.
 fn tried(whole: bool, function: u8, frame: &[u8], name: &[u8], asked: usize) -> usize
-    requires { ⌜ length (now frame) ≡ 21173 ⌝ }
+    requires { ⌜ length (now frame) ≡ 21185 ⌝ }
     ensures { λ r. ⌜ r ≤ 1 ⌝ }
 {
     if !whole {
@@ -70,7 +70,7 @@ fn tried(whole: bool, function: u8, frame: &[u8], name: &[u8], asked: usize) -> 
 
 // Whether the call sends back the word that the frame has, and leaves its outputs as they stand there, behind what was lent too.
 fn answered(function: u8, frame: &[u8]) -> bool
-    requires { ⌜ length (now frame) ≡ 21173 ⌝ }
+    requires { ⌜ length (now frame) ≡ 21185 ⌝ }
 {
     let list = frame::numbers(&frame[frame::LIST..frame::MADE]);
     let wanted = frame::numbers(&frame[frame::MADE..frame::SECOND]);
@@ -93,7 +93,7 @@ fn called(
     out: &mut [u8],
     more: &mut [u8],
 ) -> u64
-    requires { ⌜ (length (now frame) ≡ 21173) × (length (now list) ≡ 17) × (length (now made) ≡ 17) × (length (now out) ≡ 8440) × (length (now more) ≡ 4096) ⌝ }
+    requires { ⌜ (length (now frame) ≡ 21185) × (length (now list) ≡ 17) × (length (now made) ≡ 17) × (length (now out) ≡ 8442) × (length (now more) ≡ 4096) ⌝ }
 {
     let first = frame::FIRST + frame::lent(frame, 0, frame::FILE);
     let second = frame::SECOND + frame::lent(frame, 1, frame::NUMBERS);

@@ -1,11 +1,13 @@
 //! The codecs that are timed.
 
-use crate::{Codec, SIDE};
+use crate::Codec;
+use reference::record::Layout;
 
 extern "C" {
     fn fb_code_plane(
         width: usize,
         height: usize,
+        rows: usize,
         qp: u8,
         plane: *const u8,
         plane_length: usize,
@@ -55,12 +57,24 @@ impl Codec for Proved {
         true
     }
 
-    fn code(&self, qp: u8, plane: &[u8], area: &mut [u8], rebuilt: &mut [u8]) -> usize {
+    fn slices(&self) -> bool {
+        true
+    }
+
+    fn code(
+        &self,
+        layout: Layout,
+        qp: u8,
+        plane: &[u8],
+        area: &mut [u8],
+        rebuilt: &mut [u8],
+    ) -> usize {
         // Each pointer comes with its slice's length.
         let word = unsafe {
             fb_code_plane(
-                SIDE,
-                SIDE,
+                layout.width,
+                layout.height,
+                layout.rows,
                 qp,
                 plane.as_ptr(),
                 plane.len(),
@@ -95,7 +109,18 @@ impl Codec for Study {
         false
     }
 
-    fn code(&self, qp: u8, plane: &[u8], area: &mut [u8], rebuilt: &mut [u8]) -> usize {
+    fn slices(&self) -> bool {
+        false
+    }
+
+    fn code(
+        &self,
+        layout: Layout,
+        qp: u8,
+        plane: &[u8],
+        area: &mut [u8],
+        rebuilt: &mut [u8],
+    ) -> usize {
         // Each pointer comes with its slice's length; the study itself tests none, and they are those it takes.
         let answer = unsafe {
             study_code(
@@ -105,8 +130,8 @@ impl Codec for Study {
                 rebuilt.len(),
                 area.as_mut_ptr(),
                 area.len(),
-                SIDE,
-                SIDE,
+                layout.width,
+                layout.height,
                 qp,
             )
         };
@@ -142,8 +167,25 @@ impl Codec for Reference {
         true
     }
 
-    fn code(&self, qp: u8, plane: &[u8], area: &mut [u8], rebuilt: &mut [u8]) -> usize {
-        reference::code_plane(SIDE, SIDE, qp, plane, area, rebuilt).expect("the sizes are right")
+    fn slices(&self) -> bool {
+        true
+    }
+
+    fn code(
+        &self,
+        layout: Layout,
+        qp: u8,
+        plane: &[u8],
+        area: &mut [u8],
+        rebuilt: &mut [u8],
+    ) -> usize {
+        let Layout {
+            width,
+            height,
+            rows,
+        } = layout;
+        reference::code_plane(width, height, rows, qp, plane, area, rebuilt)
+            .expect("the sizes are right")
     }
 
     fn decode(&self, file: &[u8], plane: &mut [u8]) {

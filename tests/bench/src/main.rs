@@ -1,5 +1,5 @@
 //! Times coder and decoder on pictures of 128x128 macroblocks, one thread: the proved library, the unproved study of its speed where it
-//! is there, and the reference, all in one run. Their files and planes must be the same; the study knows 4x4 records only.
+//! is there, and the reference, all in one run. Their files and planes must be the same; the study knows 4x4 records and one slice only.
 
 mod library;
 mod pictures;
@@ -7,13 +7,19 @@ mod pictures;
 #[cfg(study)]
 use library::Study;
 use library::{Proved, Reference};
+use reference::record::Layout;
 use reference::{code_plane_by, Sads};
 use std::time::{Duration, Instant};
 
 /// In macroblocks: the largest picture.
 const SIDE: usize = 128;
 const SAMPLES: usize = 256 * SIDE * SIDE;
-const AREA: usize = 8 + 527 * SIDE * SIDE;
+const WHOLE: Layout = Layout {
+    width: SIDE,
+    height: SIDE,
+    rows: SIDE,
+};
+const IN_SLICES: Layout = Layout { rows: 4, ..WHOLE };
 const QPS: [u8; 2] = [28, 12];
 /// Each is run so often, in turns, and its best time counts: what else the machine does only ever adds to a time.
 const ROUNDS: usize = 12;
@@ -23,8 +29,17 @@ trait Codec {
     fn name(&self) -> &'static str;
     /// Whether it knows records of 16x16.
     fn both_kinds(&self) -> bool;
+    /// Whether it knows slices.
+    fn slices(&self) -> bool;
     /// Answers the bytes used of the file's area.
-    fn code(&self, qp: u8, plane: &[u8], area: &mut [u8], rebuilt: &mut [u8]) -> usize;
+    fn code(
+        &self,
+        layout: Layout,
+        qp: u8,
+        plane: &[u8],
+        area: &mut [u8],
+        rebuilt: &mut [u8],
+    ) -> usize;
     fn decode(&self, file: &[u8], plane: &mut [u8]);
 }
 
@@ -51,23 +66,28 @@ fn main() {
 
 /// A record file with the plane that a decoder makes of it.
 struct Coded {
+    layout: Layout,
     file: Vec<u8>,
     rebuilt: Vec<u8>,
 }
 
 impl Coded {
     /// What the reference makes of a plane where macroblocks take 16x16 by this choice.
-    fn new(takes_sixteen: fn(&Sads) -> bool, qp: u8, plane: &[u8]) -> Coded {
-        let (mut file, mut rebuilt) = (vec![0; AREA], vec![0; SAMPLES]);
+    fn new(takes_sixteen: fn(&Sads) -> bool, layout: Layout, qp: u8, plane: &[u8]) -> Coded {
+        let (mut file, mut rebuilt) = (vec![0; layout.area()], vec![0; SAMPLES]);
         let [area, plane_too] = [&mut file, &mut rebuilt];
-        let used = code_plane_by(takes_sixteen, SIDE, SIDE, qp, plane, area, plane_too);
+        let used = code_plane_by(takes_sixteen, layout, qp, plane, area, plane_too);
         file.truncate(used.expect("the sizes are right"));
-        Coded { file, rebuilt }
+        Coded {
+            layout,
+            file,
+            rebuilt,
+        }
     }
 
     /// How many macroblocks are 16x16: each record is 7 bytes shorter.
     fn share(&self) -> String {
-        let part = (AREA - self.file.len()) as f64 / (7 * SIDE * SIDE) as f64;
+        let part = (self.layout.area() - self.file.len()) as f64 / (7 * SIDE * SIDE) as f64;
         format!("{:.1} % of the macroblocks take 16x16", 100.0 * part)
     }
 }
@@ -76,8 +96,9 @@ impl Coded {
 struct Bench {
     qp: u8,
     plane: Vec<u8>,
-    /// Of both kinds of records, as the coder chooses; of one kind only.
+    /// Of both kinds of records, as the coder chooses, in one slice and in many; in one slice of one kind only.
     both: Coded,
+    slices: Coded,
     four: Coded,
     sixteen: Coded,
     area: Vec<u8>,
@@ -88,9 +109,11 @@ struct Bench {
 /// A task that is timed; none for a codec that cannot do it.
 type Task = fn(&mut Bench, &dyn Codec) -> Option<Duration>;
 
-const TASKS: [(&str, Task); 4] = [
-    ("code", Bench::code),
+const TASKS: [(&str, Task); 6] = [
+    ("code", Bench::code_own),
     ("decode that", Bench::decode_own),
+    ("code slices", Bench::code_slices),
+    ("decode those", Bench::decode_slices),
     ("decode 4x4", Bench::decode_four),
     ("decode 16x16", Bench::decode_sixteen),
 ];
@@ -100,32 +123,53 @@ impl Bench {
         Bench {
             qp,
             plane: plane.to_vec(),
-            both: Coded::new(Sads::sixteen_wins, qp, plane),
-            four: Coded::new(|_| false, qp, plane),
-            sixteen: Coded::new(|_| true, qp, plane),
-            area: vec![1; AREA],
+            both: Coded::new(Sads::sixteen_wins, WHOLE, qp, plane),
+            slices: Coded::new(Sads::sixteen_wins, IN_SLICES, qp, plane),
+            four: Coded::new(|_| false, WHOLE, qp, plane),
+            sixteen: Coded::new(|_| true, WHOLE, qp, plane),
+            area: vec![1; IN_SLICES.area()],
             rebuilt: vec![1; SAMPLES],
             decoded: vec![1; SAMPLES],
         }
     }
 
-    /// What a codec makes of the plane.
-    fn own(&self, codec: &dyn Codec) -> &Coded {
-        if codec.both_kinds() {
-            &self.both
-        } else {
-            &self.four
-        }
+    fn code_own(&mut self, codec: &dyn Codec) -> Option<Duration> {
+        let (time, used) = self.code(codec, WHOLE);
+        let own = match codec.both_kinds() {
+            true => &self.both,
+            false => &self.four,
+        };
+        self.compare(codec, own, used);
+        Some(time)
     }
 
-    fn code(&mut self, codec: &dyn Codec) -> Option<Duration> {
-        let started = Instant::now();
-        let used = codec.code(self.qp, &self.plane, &mut self.area, &mut self.rebuilt);
-        let time = started.elapsed();
-        let own = self.own(codec);
-        let same = self.area[..used] == own.file && self.rebuilt == own.rebuilt;
-        assert!(same, "{} codes otherwise", codec.name());
+    fn code_slices(&mut self, codec: &dyn Codec) -> Option<Duration> {
+        if !codec.slices() {
+            return None;
+        }
+        let (time, used) = self.code(codec, IN_SLICES);
+        self.compare(codec, &self.slices, used);
         Some(time)
+    }
+
+    /// The time, and the bytes used of the area.
+    fn code(&mut self, codec: &dyn Codec, layout: Layout) -> (Duration, usize) {
+        let (area, rebuilt) = (&mut self.area[..layout.area()], &mut self.rebuilt);
+        let started = Instant::now();
+        let used = codec.code(layout, self.qp, &self.plane, area, rebuilt);
+        (started.elapsed(), used)
+    }
+
+    /// What was coded must be this.
+    fn compare(&self, codec: &dyn Codec, coded: &Coded, used: usize) {
+        let same = self.area[..used] == coded.file && self.rebuilt == coded.rebuilt;
+        assert!(same, "{} codes otherwise", codec.name());
+    }
+
+    fn decode_slices(&mut self, codec: &dyn Codec) -> Option<Duration> {
+        codec
+            .slices()
+            .then(|| timed(codec, &self.slices, &mut self.decoded))
     }
 
     fn decode_own(&mut self, codec: &dyn Codec) -> Option<Duration> {

@@ -1,50 +1,111 @@
-//! Arguments of the functions on record files: whole files of both kinds of records, and files damaged in every field, with the sum
-//! mended or not.
+//! Arguments of the functions on record files: whole files of both kinds of heads and of records, and files damaged in every field,
+//! with the sum mended or not.
 
-use crate::planes::picture;
+use crate::planes::{picture, LARGEST};
 use crate::random::Random;
 use crate::request::Argument::{self, Bytes};
 use reference::extremes::{dc_edges, dc_levels_at};
-use reference::record::{self, Four, Kind, Luma, Macroblock, Sixteen, HEAD, MACROBLOCK};
+use reference::record::{self, Four, Head, Kind, Layout, Luma, Macroblock, Sixteen};
 use reference::Refusal;
 use std::sync::OnceLock;
 
-pub fn read_head(random: &mut Random, _: usize) -> Vec<Argument> {
+/// The listed heads first, and then drawn ones.
+pub fn read_head(random: &mut Random, case: usize) -> Vec<Argument> {
+    static LISTED: OnceLock<Vec<Vec<u8>>> = OnceLock::new();
+    let file = match LISTED.get_or_init(listed_heads).get(case) {
+        Some(file) => file.clone(),
+        None => drawn_head(random),
+    };
+    vec![Bytes(file)]
+}
+
+fn drawn_head(random: &mut Random) -> Vec<u8> {
     let mut side = || match random.below(8) {
         0 => random.of(&[0, 1, 128, 129, 256, 65535]),
         1 => random.next() as u16,
         _ => random.between(1, 128) as u16,
     };
-    let (width, height) = (side(), side());
-    let mut file = b"HD".to_vec();
-    file.extend(width.to_be_bytes());
-    file.extend(height.to_be_bytes());
-    file.extend([0; 2]);
-    mend(&mut file);
+    let (width, height, any) = (side(), side(), side());
+    let rows = match random.below(4) {
+        0 => any,
+        1 => random.of(&[0, 1, height, height.wrapping_add(1), 65535]),
+        _ => random.between(1, i32::from(height.max(1))) as u16,
+    };
+    let mut file = random.of(&Head::ALL).written(width, height, rows);
+    let length = file.len();
     if random.once_in(4) {
-        let place = random.below(HEAD);
+        let place = random.below(length);
         file[place] ^= 1 << random.below(8);
         if random.once_in(2) {
             mend(&mut file);
         }
     }
     match random.below(8) {
-        0 => file.truncate(random.below(HEAD)),
+        0 => file.truncate(random.below(length)),
         1 => file.extend((0..random.below(20)).map(|_| random.byte())),
         _ => {}
     }
-    vec![Bytes(file)]
+    file
 }
 
+/// Of both kinds: cut at every byte; with every byte of every other value, and the same with the sum mended; with the other kind's mark.
+/// Rows in and out of range at every height; the new mark before a head that is as long as the old one or one longer, with its sum.
+fn listed_heads() -> Vec<Vec<u8>> {
+    let mut heads = vec![];
+    for (kind, other) in [(Head::Old, Head::New), (Head::New, Head::Old)] {
+        let good = listed_head(kind);
+        heads.extend((0..good.len()).map(|length| good[..length].to_vec()));
+        for place in 0..good.len() {
+            let values = (0..=255).filter(|&value| value != good[place]);
+            heads.extend(with_sums(values.map(|value| changed(&good, place, value))));
+        }
+        let marked = [&other.mark(), &good[2..]].concat();
+        heads.extend(with_sums([marked.clone(), [marked, vec![0, 0]].concat()]));
+    }
+    for height in 0..=129 {
+        let rows = [0, 1, height / 2, height, height + 1, 255, 256, 32768, 65535];
+        heads.extend(rows.map(|rows| Head::New.written(1, height, rows)));
+    }
+    for numbers in [4, 5] {
+        heads.extend(with_sums([
+            [&Head::New.mark(), &[1; 7][..numbers + 2]].concat()
+        ]));
+    }
+    heads
+}
+
+/// The heads that are changed at every byte.
+pub fn listed_head(kind: Head) -> Vec<u8> {
+    kind.written(2, 2, 1)
+}
+
+/// Records, and the same with their sums mended.
+fn with_sums(records: impl IntoIterator<Item = Vec<u8>>) -> Vec<Vec<u8>> {
+    let pair = |record: Vec<u8>| {
+        let mut mended = record.clone();
+        mend(&mut mended);
+        [record, mended]
+    };
+    records.into_iter().flat_map(pair).collect()
+}
+
+fn changed(file: &[u8], place: usize, value: u8) -> Vec<u8> {
+    let mut file = file.to_vec();
+    file[place] = value;
+    file
+}
+
+/// The listed files first, then small ones, mostly damaged, and two of the largest last; a plane that holds anything.
 pub const CASES: usize = 200_000;
 
-/// The listed files first, the largest one last, and between them small ones, mostly damaged; a plane that holds anything.
 pub fn decode_plane(random: &mut Random, case: usize) -> Vec<Argument> {
     let files = files();
-    let (file, samples) = match files.listed.get(case) {
-        Some(file) => (file.clone(), LISTED_SAMPLES),
-        None if case == CASES => (files.largest.clone(), 256 * 128 * 128),
-        None => small(random, &files.small),
+    let (file, samples) = match case.checked_sub(CASES - LARGEST.len()) {
+        Some(which) => (files.largest[which].clone(), LARGEST[which].samples()),
+        None => match files.listed.get(case) {
+            Some(file) => (file.clone(), LISTED_SAMPLES),
+            None => small(random, &files.small),
+        },
     };
     let plane = (0..samples).map(|_| random.byte()).collect();
     vec![Bytes(file), Bytes(plane)]
@@ -53,8 +114,8 @@ pub fn decode_plane(random: &mut Random, case: usize) -> Vec<Argument> {
 /// A file that is damaged once, twice or not at all, and the samples that are lent for it.
 fn small(random: &mut Random, files: &[Vec<u8>]) -> (Vec<u8>, usize) {
     let mut file = files[random.below(files.len())].clone();
-    let (width, height) = record::read_head(&file).expect("it is whole yet");
-    let samples = 256 * width * height;
+    let layout = record::read_head(&file).expect("it is whole yet");
+    let samples = layout.samples();
     let times = random.of(&[0, 1, 1, 1, 2]);
     (0..times).for_each(|_| damage(random, &mut file));
     let samples = match random.once_in(20) {
@@ -67,28 +128,35 @@ fn small(random: &mut Random, files: &[Vec<u8>]) -> (Vec<u8>, usize) {
 struct Files {
     listed: Vec<Vec<u8>>,
     small: Vec<Vec<u8>>,
-    largest: Vec<u8>,
+    largest: [Vec<u8>; LARGEST.len()],
 }
 
-/// Made once. The small ones are most of 1x1 macroblock, some of up to 3x3, of all QPs: every other one is what the coder makes of a
-/// picture, and the rest have records of drawn kinds, modes and levels.
+/// Made once. The small ones are most of 1x1 macroblock, some of up to 3x4 and a few of up to 5x9 in slices, of all QPs: every other one is
+/// what the coder makes of a picture, and the rest have records of drawn kinds, modes and levels.
 fn files() -> &'static Files {
     static FILES: OnceLock<Files> = OnceLock::new();
     FILES.get_or_init(|| {
         let mut random = Random::new(0xF11E5);
         let small = (0..320)
             .map(|number| {
-                let (width, height) = match number % 8 {
-                    6 | 7 => (random.between(1, 3) as usize, random.between(1, 3) as usize),
-                    _ => (1, 1),
+                let sides = match (number % 80, number % 8) {
+                    (78 | 79, _) => [5, 9],
+                    (_, 4..) => [3, 4],
+                    _ => [1, 1],
+                };
+                let [width, height] = sides.map(|most| random.between(1, most) as usize);
+                let layout = Layout {
+                    width,
+                    height,
+                    rows: random.between(1, height as i32) as usize,
                 };
                 match number % 2 {
-                    0 => coded(&mut random, width, height, (number % 52) as u8),
-                    _ => drawn(&mut random, width, height),
+                    0 => coded(&mut random, layout, (number % 52) as u8),
+                    _ => drawn(&mut random, layout),
                 }
             })
             .collect();
-        let largest = coded(&mut random, 128, 128, 28);
+        let largest = LARGEST.map(|layout| coded(&mut random, layout, 28));
         Files {
             listed: listed(),
             small,
@@ -97,22 +165,32 @@ fn files() -> &'static Files {
     })
 }
 
-fn coded(random: &mut Random, width: usize, height: usize, qp: u8) -> Vec<u8> {
+fn coded(random: &mut Random, layout: Layout, qp: u8) -> Vec<u8> {
+    let Layout {
+        width,
+        height,
+        rows,
+    } = layout;
     let plane = picture(random, width, height);
-    let mut file = vec![0; HEAD + MACROBLOCK * width * height];
+    let mut file = vec![0; layout.area()];
     let mut rebuilt = vec![0; plane.len()];
-    let used = reference::code_plane(width, height, qp, &plane, &mut file, &mut rebuilt);
+    let used = reference::code_plane(width, height, rows, qp, &plane, &mut file, &mut rebuilt);
     file.truncate(used.expect("the sizes are right"));
     file
 }
 
-/// Drawn macroblocks, amended where they are none.
-fn drawn(random: &mut Random, width: usize, height: usize) -> Vec<u8> {
-    let mut macroblocks: Vec<Macroblock> =
-        (0..width * height).map(|_| macroblock(random)).collect();
-    let mut plane = vec![0; 256 * width * height];
+/// Drawn macroblocks, amended where they are none; one slice has either head.
+fn drawn(random: &mut Random, layout: Layout) -> Vec<u8> {
+    let head = match layout.head() {
+        Head::Old => random.of(&Head::ALL),
+        Head::New => Head::New,
+    };
+    let mut macroblocks: Vec<Macroblock> = (0..layout.macroblocks())
+        .map(|_| macroblock(random))
+        .collect();
+    let mut plane = vec![0; layout.samples()];
     loop {
-        let file = record::file(width, height, &macroblocks).expect("it is a size");
+        let file = record::file_with(head, layout, &macroblocks).expect("it is a size");
         match reference::decode_plane(&file, &mut plane) {
             Ok(()) => return file,
             Err(refusal) => amend(&mut macroblocks, refusal),
@@ -165,21 +243,25 @@ fn halve(levels: &mut [i16]) {
 /// All of them are of 2x2 macroblocks by their heads.
 const LISTED_SAMPLES: usize = 1024;
 
-/// The file that is cut and changed at every byte: 16x16, 4x4, 4x4, 16x16.
-pub fn listed_whole() -> &'static [u8] {
-    static WHOLE: OnceLock<Vec<u8>> = OnceLock::new();
-    WHOLE.get_or_init(|| {
-        let four = Macroblock {
-            qp: 28,
-            luma: Luma::Four(Four {
-                modes: [2; 16],
-                levels: std::array::from_fn(|block| [block as i16 - 8; 16]),
-            }),
-        };
+/// The files that are cut and changed at every byte: 16x16, 4x4, 4x4, 16x16; in one slice, and in two.
+pub fn listed_wholes() -> &'static [Vec<u8>; 2] {
+    static WHOLES: OnceLock<[Vec<u8>; 2]> = OnceLock::new();
+    WHOLES.get_or_init(|| {
+        let four = four([2; 16], std::array::from_fn(|block| [block as i16 - 8; 16]));
         let first = sixteen(20, 2, SLOPE, [[1; 15]; 16]);
-        let last = sixteen(33, 3, SLOPE, [[-1; 15]; 16]);
-        file(&[first, four.clone(), four, last])
+        let all = |mode| {
+            let last = sixteen(33, mode, SLOPE, [[-1; 15]; 16]);
+            [first.clone(), four.clone(), four.clone(), last]
+        };
+        [file(&all(3)), file_in_slices(&all(1))]
     })
+}
+
+fn four(modes: [u8; 16], levels: [[i16; 16]; 16]) -> Macroblock {
+    Macroblock {
+        qp: 28,
+        luma: Luma::Four(Four { modes, levels }),
+    }
 }
 
 const SLOPE: [i16; 16] = [9, 8, 7, 6, 5, 4, 3, 2, 1, 0, -1, -2, -3, -4, -5, -6];
@@ -192,18 +274,82 @@ fn sixteen(qp: u8, mode: u8, dc: [i16; 16], ac: [[i16; 15]; 16]) -> Macroblock {
 }
 
 fn file(macroblocks: &[Macroblock]) -> Vec<u8> {
-    record::file(2, 2, macroblocks).expect("it is a size")
+    record::file(Layout::one_slice(2, 2), macroblocks).expect("it is a size")
+}
+
+/// A slice for each row.
+fn file_in_slices(macroblocks: &[Macroblock]) -> Vec<u8> {
+    let layout = Layout {
+        width: 2,
+        height: 2,
+        rows: 1,
+    };
+    record::file(layout, macroblocks).expect("it is a size")
 }
 
 /// The bad inputs that must be among the cases.
 fn listed() -> Vec<Vec<u8>> {
-    [damaged(), surplus(), contents(), dc_ends()].concat()
+    let [one, two] = listed_wholes();
+    [
+        damaged(one),
+        damaged(two),
+        surplus(one),
+        surplus(two),
+        heads(),
+        modes_in_slices(),
+        contents(),
+        dc_ends(),
+    ]
+    .concat()
+}
+
+/// The listed files with other heads: each byte changed to 0, one more and its complement, also with the sum mended; the other mark; the
+/// new head for one slice; and rows that are none.
+fn heads() -> Vec<Vec<u8>> {
+    let mut files = vec![];
+    for whole in listed_wholes() {
+        let kind = Head::of(whole).expect("it is whole");
+        let (head, records) = whole.split_at(kind.bytes());
+        let bytes = (0..head.len())
+            .flat_map(|place| other_values(head[place]).map(|value| changed(head, place, value)));
+        let other = Head::ALL.map(|kind| [&kind.mark(), &head[2..]].concat());
+        let rows = [0, 1, 2, 3, 65535].map(|rows| Head::New.written(2, 2, rows));
+        let heads = with_sums(bytes.chain(other)).into_iter().chain(rows);
+        files.extend(heads.map(|head| [head, records.to_vec()].concat()));
+    }
+    files
+}
+
+/// What each byte of a head is changed to.
+pub fn other_values(byte: u8) -> [u8; 3] {
+    [0, byte.wrapping_add(1), !byte]
+}
+
+/// In two slices, each of four macroblocks in turn with every mode of 16x16, and with every mode of 4x4 in every block.
+fn modes_in_slices() -> Vec<Vec<u8>> {
+    let whole = (0..4).map(|mode| sixteen(28, mode, SLOPE, [[0; 15]; 16]));
+    let fours = (0..9).flat_map(|mode| {
+        (0..16).map(move |block| {
+            let mut modes = [2; 16];
+            modes[block] = mode;
+            four(modes, [[0; 16]; 16])
+        })
+    });
+    let all: Vec<Macroblock> = whole.chain(fours).collect();
+    let in_turn = |number: usize| {
+        let place = move |one: &Macroblock| {
+            let mut macroblocks = vec![sixteen(28, 2, SLOPE, [[1; 15]; 16]); 4];
+            macroblocks[number] = one.clone();
+            file_in_slices(&macroblocks)
+        };
+        all.iter().map(place).collect::<Vec<_>>()
+    };
+    (0..4).flat_map(in_turn).collect()
 }
 
 /// Cut at every byte; every byte with another bit changed, and those of marks, numbers and sums with each; every bit of a number, with
 /// the sum mended; the other kind's marks.
-fn damaged() -> Vec<Vec<u8>> {
-    let whole = listed_whole();
+fn damaged(whole: &[u8]) -> Vec<Vec<u8>> {
     let changed = |place: usize, by: u8| {
         let mut file = whole.to_vec();
         file[place] ^= by;
@@ -232,9 +378,8 @@ fn damaged() -> Vec<Vec<u8>> {
 }
 
 /// Bytes behind the last record; also of a file with a wrong sum, which comes before them, and of one whose content is refused.
-fn surplus() -> Vec<Vec<u8>> {
-    let whole = listed_whole().to_vec();
-    let mut broken = whole.clone();
+fn surplus(whole: &[u8]) -> Vec<Vec<u8>> {
+    let mut broken = whole.to_vec();
     *broken.last_mut().expect("it has a sum") ^= 1;
     let illegal = file(&vec![sixteen(52, 4, SLOPE, [[0; 15]; 16]); 4]);
     let one_more = sixteen(28, 2, [0; 16], [[0; 15]; 16]).record(4);
@@ -246,7 +391,7 @@ fn surplus() -> Vec<Vec<u8>> {
         vec![0; 1200],
     ];
     let longer = |file: Vec<u8>| more.clone().map(|more| [file.clone(), more].concat());
-    [whole, broken, illegal].map(longer).concat()
+    [whole.to_vec(), broken, illegal].map(longer).concat()
 }
 
 /// Each of four 16x16 records in turn: with every mode; with every QP and a mode that is none; with each AC level out of range, alone,
@@ -309,10 +454,11 @@ fn dc_ends() -> Vec<Vec<u8>> {
 
 // ---- damage
 
-/// The records that begin with a mark that is known and are not cut, up to the first other one: their first bytes and kinds.
+/// The records that begin with a mark that is known and are not cut, up to the first other one: their first bytes and kinds. None where
+/// the head's mark is not known.
 fn records(file: &[u8]) -> Vec<(usize, Kind)> {
     let mut records = vec![];
-    let mut at = HEAD;
+    let mut at = Head::of(file).map_or(file.len(), Head::bytes);
     let next = |at: usize| {
         let rest = file.get(at..)?;
         let marked = |kind: &Kind| rest.starts_with(&kind.mark()) && rest.len() >= kind.bytes();
@@ -343,9 +489,11 @@ fn damage(random: &mut Random, file: &mut Vec<u8>) {
     match random.below(8) {
         0 => any_damage(random, file),
         1 => {
-            head_damage(random, &mut file[..HEAD]);
+            let (first, _) = records[0];
+            let head = &mut file[..first];
+            head_damage(random, head);
             if random.once_in(2) {
-                mend(&mut file[..HEAD]);
+                mend(head);
             }
         }
         _ => {
@@ -371,13 +519,15 @@ fn any_damage(random: &mut Random, file: &mut Vec<u8>) {
     }
 }
 
-/// In the mark, the width, the height or the sum.
+/// In the mark, the width, the height, the rows or the sum.
 fn head_damage(random: &mut Random, head: &mut [u8]) {
-    match random.below(4) {
-        0 => head[random.below(2)] ^= 1 << random.below(8),
-        1 => head[2 + random.below(2)] = random.byte() % 4,
-        2 => head[4 + random.below(2)] = random.byte() % 4,
-        _ => head[6 + random.below(2)] = random.byte(),
+    let sum = head.len() - 2;
+    let field = 2 * random.below(head.len() / 2);
+    let place = field + random.below(2);
+    match field {
+        0 => head[place] ^= 1 << random.below(8),
+        _ if field == sum => head[place] = random.byte(),
+        _ => head[place] = random.byte() % 4,
     }
 }
 

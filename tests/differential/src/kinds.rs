@@ -1,15 +1,16 @@
-//! Kinds of cases that must come beside the outcomes: what the coder chose and left, and what the decoder read or refused a file for.
+//! Kinds of cases that must come beside the outcomes: what the coder chose and left, and what a head or a file was read as or refused for.
 
-use crate::files;
+use crate::files::{listed_head, listed_wholes, other_values};
 use crate::request::Argument::{self, Bytes, Number};
 use reference::extremes::dc_edges;
-use reference::record::{self, Broken, Fault, Kind, Luma, Macroblock, Sixteen, HEAD, MACROBLOCK};
+use reference::record::{self, Broken, Fault, Head, Kind, Layout, Luma, Macroblock, Sixteen};
 use reference::{code_plane_by, rebuild_with_dc, rescaled_luma_dc, Sads};
 
 /// Those that must come for a function, each at least once.
 pub fn required(function: &str) -> Vec<String> {
     match function {
         "fb_code_plane" => required_of_coding(),
+        "fb_read_head" => required_of_heads(),
         "fb_decode_plane" => required_of_decoding(),
         _ => vec![],
     }
@@ -19,9 +20,51 @@ pub fn required(function: &str) -> Vec<String> {
 pub fn of(function: &str, word: u64, arguments: &[Argument]) -> Vec<String> {
     match function {
         "fb_code_plane" => of_coding(word, arguments),
+        "fb_read_head" => of_reading(word, arguments),
         "fb_decode_plane" => of_decoding(word, arguments),
         _ => vec![],
     }
+}
+
+// ---- slices
+
+/// Rows that are refused.
+const BAD_ROWS: [&str; 3] = [
+    "slices of 0 rows",
+    "slices of one row more than the height",
+    "slices of 65535 rows",
+];
+const SHORTER: &str = "a last slice that is shorter";
+
+fn in_slices(height: usize, rows: usize) -> String {
+    format!("{height} rows in slices of {rows}")
+}
+
+/// Every number of rows up to this height.
+fn every_slicing(height: usize) -> impl Iterator<Item = String> {
+    let of = |height| (1..=height).map(move |rows| in_slices(height, rows));
+    (1..=height)
+        .flat_map(of)
+        .chain([SHORTER].map(str::to_owned))
+}
+
+fn of_slicing(layout: Layout) -> Vec<String> {
+    let shorter = !layout.height.is_multiple_of(layout.rows);
+    let named = shorter.then(|| SHORTER.to_owned());
+    let slicing = in_slices(layout.height, layout.rows);
+    [slicing].into_iter().chain(named).collect()
+}
+
+/// Of numbers that are refused by SIZE.
+fn of_bad_rows(layout: Layout) -> Vec<String> {
+    let side = 1..=128;
+    if !side.contains(&layout.width) || !side.contains(&layout.height) {
+        return vec![];
+    }
+    let bad = [0, layout.height + 1, 65535];
+    let named = BAD_ROWS.iter().zip(bad);
+    let named = named.filter(|&(_, rows)| rows == layout.rows);
+    named.map(|(name, _)| name.to_string()).collect()
 }
 
 // ---- coding
@@ -35,39 +78,68 @@ fn coded(mode: u8) -> String {
     format!("a macroblock coded by mode {mode} of 16x16")
 }
 
+fn other_area(head: Head) -> String {
+    format!("an area for the other head than the {head:?} one")
+}
+
 fn required_of_coding() -> Vec<String> {
-    let named = [REST, TIE, TIE_OF_MODES, JUST_USED].map(str::to_owned);
-    (0..4).map(coded).chain(named).collect()
+    let named = [REST, TIE, TIE_OF_MODES, JUST_USED];
+    let named = named.into_iter().chain(BAD_ROWS).map(str::to_owned);
+    (0..4)
+        .map(coded)
+        .chain(named)
+        .chain(Head::ALL.map(other_area))
+        .chain(every_slicing(5))
+        .collect()
 }
 
 /// Codes once more, to see the choices.
 fn of_coding(word: u64, arguments: &[Argument]) -> Vec<String> {
-    let [Number(width), Number(height), Number(qp), Bytes(plane), Bytes(area), _] = arguments
+    let [Number(width), Number(height), Number(rows), Number(qp), Bytes(plane), Bytes(area), _] =
+        arguments
     else {
         unreachable!()
     };
-    // LENGTH comes behind SIZE, so that these are small.
-    let (width, height, qp) = match word % 256 {
-        0 | 1 => (*width as usize, *height as usize, *qp as u8),
-        _ => return vec![],
+    let [width, height, rows] = [width, height, rows].map(|number| *number as usize);
+    let layout = Layout {
+        width,
+        height,
+        rows,
     };
+    // LENGTH comes behind SIZE, so that the size is one.
+    match word % 256 {
+        0 | 1 => {}
+        8 => return of_bad_rows(layout),
+        _ => return vec![],
+    }
     let mut kinds = vec![];
     let watched = |sads: &Sads| {
         kinds.extend(of_choice(sads));
         sads.sixteen_wins()
     };
-    let mut file = vec![0; HEAD + MACROBLOCK * width * height];
+    let mut file = vec![0; layout.area()];
     let mut rebuilt = vec![0; plane.len()];
-    let used = code_plane_by(watched, width, height, qp, plane, &mut file, &mut rebuilt);
+    let used = code_plane_by(watched, layout, *qp as u8, plane, &mut file, &mut rebuilt);
     match (used, word % 256) {
-        (Ok(used), 0) if used < area.len() => kinds.push(REST.to_owned()),
-        (Ok(used), 1) if used < file.len() && used == area.len() => {
-            return vec![JUST_USED.to_owned()];
+        (Ok(used), 0) => {
+            kinds.extend(of_slicing(layout));
+            kinds.extend((used < area.len()).then(|| REST.to_owned()));
+            kinds
         }
-        (_, 1) => return vec![],
-        _ => {}
+        (Ok(used), _) => of_area(layout, used, area.len()),
+        _ => vec![],
     }
-    kinds
+}
+
+/// Of a call that is refused by LENGTH.
+fn of_area(layout: Layout, used: usize, lent: usize) -> Vec<String> {
+    let just = used < layout.area() && used == lent;
+    let records = layout.area() - layout.head().bytes();
+    let other = lent != layout.area() && Head::ALL.iter().any(|it| it.bytes() + records == lent);
+    let just = just.then(|| JUST_USED.to_owned());
+    just.into_iter()
+        .chain(other.then(|| other_area(layout.head())))
+        .collect()
 }
 
 fn of_choice(sads: &Sads) -> Vec<String> {
@@ -84,6 +156,79 @@ fn of_choice(sads: &Sads) -> Vec<String> {
     kinds
 }
 
+// ---- heads
+
+const NEW_OF_ONE_SLICE: &str = "the new head of one slice";
+
+fn head_cut(head: Head, length: usize) -> String {
+    format!("the {head:?} head cut to {length} bytes")
+}
+
+fn head_changed(place: usize, value: u8) -> String {
+    format!("the New head with {value} for its byte {place}")
+}
+
+fn required_of_heads() -> Vec<String> {
+    let cut = Head::ALL
+        .into_iter()
+        .flat_map(|head| (2..head.bytes()).map(move |length| head_cut(head, length)));
+    let good = listed_head(Head::New);
+    let others = |place: usize| {
+        let others = other_values(good[place]).into_iter();
+        let others = others.filter(move |value| *value != listed_head(Head::New)[place]);
+        others.map(move |value| head_changed(place, value))
+    };
+    let named = [NEW_OF_ONE_SLICE].into_iter().chain(BAD_ROWS);
+    cut.chain((0..good.len()).flat_map(others))
+        .chain(named.map(str::to_owned))
+        .collect()
+}
+
+fn of_reading(word: u64, arguments: &[Argument]) -> Vec<String> {
+    let [Bytes(file)] = arguments else {
+        unreachable!()
+    };
+    of_head(word % 256, file)
+}
+
+/// By the outcome, and the file that begins with the head.
+fn of_head(number: u64, file: &[u8]) -> Vec<String> {
+    let Some(head) = Head::of(file) else {
+        return of_changed_head(file);
+    };
+    if file.len() < head.bytes() {
+        return vec![head_cut(head, file.len())];
+    }
+    let mut kinds = of_changed_head(file);
+    if head == Head::New {
+        let field = |at: usize| usize::from(u16::from_be_bytes([file[at], file[at + 1]]));
+        let layout = Layout {
+            width: field(2),
+            height: field(4),
+            rows: field(6),
+        };
+        match number {
+            0 if layout.rows == layout.height => kinds.push(NEW_OF_ONE_SLICE.to_owned()),
+            8 => kinds.extend(of_bad_rows(layout)),
+            _ => {}
+        }
+    }
+    kinds
+}
+
+/// Whether a file begins with the listed new head but for one byte.
+fn of_changed_head(file: &[u8]) -> Vec<String> {
+    let good = listed_head(Head::New);
+    let Some(head) = file.get(..good.len()) else {
+        return vec![];
+    };
+    let other: Vec<usize> = (0..good.len()).filter(|&at| head[at] != good[at]).collect();
+    match other.as_slice() {
+        &[place] => vec![head_changed(place, head[place])],
+        _ => vec![],
+    }
+}
+
 // ---- decoding
 
 const BOTH: &str = "both kinds in one file";
@@ -97,12 +242,13 @@ fn decoded(mode: u8) -> String {
     format!("a macroblock decoded by mode {mode} of 16x16")
 }
 
-fn cut(length: usize) -> String {
-    format!("the listed file cut to {length} bytes")
+/// The listed files are told apart by their heads.
+fn cut(head: Head, length: usize) -> String {
+    format!("the listed file with the {head:?} head cut to {length} bytes")
 }
 
-fn changed(place: usize) -> String {
-    format!("the listed file with another byte {place}")
+fn changed(head: Head, place: usize) -> String {
+    format!("the listed file with the {head:?} head and another byte {place}")
 }
 
 /// `at` says more about some faults.
@@ -118,6 +264,10 @@ fn lacks(mode: u8, edge: &str) -> String {
     format!("mode {mode} of 16x16 {edge}")
 }
 
+fn lacks_in(block: usize, mode: u8) -> String {
+    format!("mode {mode} of 4x4 in block {block} {LATER_SLICE}")
+}
+
 fn ac(block: usize) -> String {
     format!("AC out of range in block {block} of 16x16")
 }
@@ -127,7 +277,10 @@ fn dc(qp: u8, value: i64) -> String {
 }
 
 fn required_of_decoding() -> Vec<String> {
-    let listed = files::listed_whole().len();
+    let listed = Head::ALL.into_iter().zip(listed_wholes());
+    let listed = listed.flat_map(|(head, whole)| {
+        (0..whole.len()).flat_map(move |place| [cut(head, place), changed(head, place)])
+    });
     let of_kinds = Kind::ALL.into_iter().flat_map(|kind| {
         let at = format!("of {kind:?}");
         let alone = format!("of {kind:?} {SUM_RIGHT}");
@@ -151,11 +304,18 @@ fn required_of_decoding() -> Vec<String> {
         lacks(3, FIRST_ROW),
         lacks(3, LEFT_EDGE),
         lacks(3, FIRST),
+        lacks(0, LATER_SLICE),
+        lacks(3, LATER_SLICE),
     ];
+    let across = UPPER_EDGE
+        .into_iter()
+        .flat_map(|block| NEED_ABOVE.map(|mode| lacks_in(block, mode)));
     let edges = (0..=51).flat_map(|qp| edges(qp).map(|value| dc(qp, value)));
     let named = [BOTH, DC_AND_AC, MODE_4, ABOVE_4].map(str::to_owned);
-    (0..listed)
-        .flat_map(|place| [cut(place), changed(place)])
+    listed
+        .chain(required_of_heads())
+        .chain(every_slicing(4))
+        .chain(across)
         .chain((0..4).map(decoded))
         .chain(of_kinds)
         .chain(faults)
@@ -175,34 +335,41 @@ fn of_decoding(word: u64, arguments: &[Argument]) -> Vec<String> {
     let [Bytes(file), _] = arguments else {
         unreachable!()
     };
-    let mut kinds = of_the_listed(file);
     let (number, place) = (word % 256, (word / 256) as usize);
-    let Ok((width, height)) = record::read_head(file) else {
+    let mut kinds = of_the_listed(file);
+    kinds.extend(of_head(number, file));
+    let Ok(layout) = record::read_head(file) else {
         return kinds;
     };
-    match (record::read_records(file, width * height), number) {
+    match (record::read_records(file, layout.macroblocks()), number) {
         (_, 1) => {}
         (Err(broken), _) => kinds.push(of_broken(file, broken)),
-        (Ok(macroblocks), 0) => kinds.extend(of_decoded(&macroblocks)),
+        (Ok(macroblocks), 0) => {
+            kinds.extend(of_slicing(layout));
+            kinds.extend(of_decoded(&macroblocks));
+        }
         (Ok(macroblocks), _) => {
             let refused = (place / 16, place % 16);
-            kinds.extend(of_refused(number, refused, width, &macroblocks));
+            kinds.extend(of_refused(number, refused, layout, &macroblocks));
         }
     }
     kinds
 }
 
-/// Whether a file is a beginning of the listed one, or that with one other byte.
+/// Whether a file is a beginning of a listed one, or that with one other byte.
 fn of_the_listed(file: &[u8]) -> Vec<String> {
-    let whole = files::listed_whole();
-    if file.len() < whole.len() && whole.starts_with(file) {
-        return vec![cut(file.len())];
-    }
-    let first = file.iter().zip(whole).position(|(one, other)| one != other);
-    match first {
-        Some(place) if file.get(place + 1..) == whole.get(place + 1..) => vec![changed(place)],
-        _ => vec![],
-    }
+    let listed = Head::ALL.into_iter().zip(listed_wholes());
+    let of = |(head, whole): (Head, &Vec<u8>)| {
+        if file.len() < whole.len() && whole.starts_with(file) {
+            return Some(cut(head, file.len()));
+        }
+        let place = file
+            .iter()
+            .zip(whole)
+            .position(|(one, other)| one != other)?;
+        (file.get(place + 1..) == whole.get(place + 1..)).then(|| changed(head, place))
+    };
+    listed.filter_map(of).collect()
 }
 
 fn of_broken(file: &[u8], broken: Broken) -> String {
@@ -236,23 +403,32 @@ fn of_decoded(macroblocks: &[Macroblock]) -> Vec<String> {
 const FIRST: &str = "in the first macroblock";
 const FIRST_ROW: &str = "in the first row";
 const LEFT_EDGE: &str = "at the left edge";
+const LATER_SLICE: &str = "in the first row of a later slice";
+
+/// The blocks of a macroblock that have another above them, and the modes of 4x4 that need it.
+const UPPER_EDGE: [usize; 4] = [0, 1, 4, 5];
+const NEED_ABOVE: [u8; 6] = [0, 3, 4, 5, 6, 7];
 
 /// A refusal of QUANTIZER, MODE or RANGE, by the record and the block that it names.
 fn of_refused(
     number: u64,
     (record, block): (usize, usize),
-    width: usize,
+    layout: Layout,
     macroblocks: &[Macroblock],
 ) -> Vec<String> {
     let macroblock = &macroblocks[record];
+    let (column, row) = (record % layout.width, record / layout.width);
+    let later = row > 0 && row % layout.rows == 0;
     match (number, &macroblock.luma) {
         (2, _) => vec![quantizer(macroblock.kind())],
+        (3, Luma::Four(four)) if later => vec![lacks_in(block, four.modes[block])],
         (_, Luma::Four(_)) => vec![],
         (3, Luma::Sixteen(Sixteen { mode: 4, .. })) => vec![MODE_4.to_owned()],
         (3, Luma::Sixteen(Sixteen { mode: 5.., .. })) => vec![ABOVE_4.to_owned()],
         (3, Luma::Sixteen(sixteen)) => {
-            let edge = match (record % width, record / width) {
+            let edge = match (column, row) {
                 (0, 0) => FIRST,
+                _ if later => LATER_SLICE,
                 (0, _) => LEFT_EDGE,
                 _ => FIRST_ROW,
             };

@@ -1,49 +1,139 @@
-//! Arguments of the coder of planes: pictures, and sizes that are none.
+//! Arguments of the coder of planes: pictures in slices, and sizes and rows that are none.
 
 use crate::random::Random;
 use crate::request::Argument::{self, Bytes, Number};
-use reference::record::{HEAD, MACROBLOCK};
+use reference::record::{Head, Layout};
+use std::sync::OnceLock;
 
+/// The listed calls first, then drawn ones, and two of the largest last.
 pub const CASES: usize = 100_000;
 
-/// A picture of one macroblock or a few, the last the largest one; areas that hold anything.
+/// The largest picture in one slice, and in two.
+pub const LARGEST: [Layout; 2] = [
+    Layout {
+        width: 128,
+        height: 128,
+        rows: 128,
+    },
+    Layout {
+        width: 128,
+        height: 128,
+        rows: 100,
+    },
+];
+
+struct Call {
+    layout: Layout,
+    qp: u8,
+    plane: Vec<u8>,
+    file: Vec<u8>,
+    rebuilt: Vec<u8>,
+}
+
 pub fn code_plane(random: &mut Random, case: usize) -> Vec<Argument> {
-    let largest = case == CASES;
-    let (width, height) = match (largest, random.below(10)) {
-        (true, _) => (128, 128),
-        (false, 0) => (random.between(1, 3) as usize, random.between(1, 3) as usize),
-        (false, _) => (1, 1),
+    let call = match case.checked_sub(CASES - LARGEST.len()) {
+        Some(which) => good(random, LARGEST[which]),
+        None if case < listed().len() => listed_call(random, &listed()[case]),
+        None => drawn(random),
     };
-    let qp = match random.below(24) {
-        0 => random.byte(),
-        1 => random.of(&[0, 51, 52, 255]),
-        _ => random.byte() % 52,
-    };
-    let mut plane = picture(random, width, height);
-    let mut file = held(random, HEAD + MACROBLOCK * width * height);
-    let mut rebuilt = held(random, plane.len());
-    let mut size = [width, height];
-    if !largest {
-        match random.below(40) {
-            0 => size[random.below(2)] = random.of(&[0, 129, 256, usize::MAX]),
-            1 => size[random.below(2)] += 1,
-            2 => resize(random, &mut plane),
-            3 => resize(random, &mut file),
-            4 => resize(random, &mut rebuilt),
-            // Just the bytes of a file with some 16x16 records.
-            5 => file.truncate(file.len() - 7 * (1 + random.below(width * height))),
-            _ => {}
-        }
-    }
-    let [width, height] = size.map(|side| Number(side as i64));
-    vec![
+    let Layout {
         width,
         height,
-        Number(qp.into()),
-        Bytes(plane),
-        Bytes(file),
-        Bytes(rebuilt),
-    ]
+        rows,
+    } = call.layout;
+    let numbers = [width, height, rows, call.qp.into()].map(|number| Number(number as i64));
+    let lent = [call.plane, call.file, call.rebuilt].map(Bytes);
+    numbers.into_iter().chain(lent).collect()
+}
+
+/// A picture with areas of its lengths, which hold anything.
+fn good(random: &mut Random, layout: Layout) -> Call {
+    let plane = picture(random, layout.width, layout.height);
+    Call {
+        layout,
+        qp: random.byte() % 52,
+        file: held(random, layout.area()),
+        rebuilt: held(random, plane.len()),
+        plane,
+    }
+}
+
+/// A layout, the head that the area is lent for, and whether the QP is legal.
+struct Listed(Layout, Head, bool);
+
+/// Small sizes with every number of rows up to one above the height, with 65535 and with the greatest: each with an area for either head,
+/// and with a QP that is none.
+fn listed() -> &'static [Listed] {
+    static LISTED: OnceLock<Vec<Listed>> = OnceLock::new();
+    LISTED.get_or_init(|| {
+        let mut listed = vec![];
+        for (width, height) in (1..=3).flat_map(|width| (1..=5).map(move |height| (width, height)))
+        {
+            for rows in (0..=height + 1).chain([65535, usize::MAX]) {
+                let layout = Layout {
+                    width,
+                    height,
+                    rows,
+                };
+                listed.extend(Head::ALL.map(|head| Listed(layout, head, true)));
+                listed.push(Listed(layout, layout.head(), false));
+            }
+        }
+        listed
+    })
+}
+
+fn listed_call(random: &mut Random, &Listed(layout, head, legal): &Listed) -> Call {
+    let mut call = good(random, layout);
+    let area = layout.area() - layout.head().bytes() + head.bytes();
+    call.file.resize(area, 0x5A);
+    if !legal {
+        call.qp = random.of(&[52, 255]);
+    }
+    call
+}
+
+/// A picture of one macroblock or a few, in slices, now and then with something that is wrong.
+fn drawn(random: &mut Random) -> Call {
+    let sides = match random.below(200) {
+        0 => [6, 9],
+        1..20 => [3, 4],
+        _ => [1, 1],
+    };
+    let [width, height] = sides.map(|most| random.between(1, most) as usize);
+    let rows = random.between(1, height as i32) as usize;
+    let mut call = good(
+        random,
+        Layout {
+            width,
+            height,
+            rows,
+        },
+    );
+    match random.below(24) {
+        0 => call.qp = random.byte(),
+        1 => call.qp = random.of(&[0, 51, 52, 255]),
+        _ => {}
+    }
+    let layout = &mut call.layout;
+    match random.below(40) {
+        0 if random.once_in(2) => layout.width = random.of(&[0, 129, 256, usize::MAX]),
+        0 => layout.height = random.of(&[0, 129, 256, usize::MAX]),
+        1 if random.once_in(2) => layout.width += 1,
+        1 => layout.height += 1,
+        2 => resize(random, &mut call.plane),
+        3 => resize(random, &mut call.file),
+        4 => resize(random, &mut call.rebuilt),
+        // Just the bytes of a file with some 16x16 records.
+        5 => {
+            let shorter = 7 * (1 + random.below(width * height));
+            call.file.truncate(layout.area() - shorter);
+        }
+        6 => layout.rows = random.of(&[0, height + 1, 65535, usize::MAX]),
+        7 => layout.rows = random.between(1, height as i32) as usize,
+        _ => {}
+    }
+    call
 }
 
 /// A picture of slopes with noise, so that every mode of 4x4 is chosen somewhere; now and then only black and white, or plain ground.

@@ -116,20 +116,21 @@ pub fn promised_distance(arguments: &mut [Argument]) -> Result<u64, Refusal> {
 }
 
 pub fn code_plane(arguments: &mut [Argument]) -> Result<u64, Refusal> {
-    let [Number(width), Number(height), Number(qp), Bytes(plane), Bytes(file), Bytes(rebuilt)] =
+    let [Number(width), Number(height), Number(rows), Number(qp), Bytes(plane), Bytes(file), Bytes(rebuilt)] =
         arguments
     else {
         unreachable!()
     };
-    let (width, height) = (*width as usize, *height as usize);
-    crate::code_plane(width, height, *qp as u8, plane, file, rebuilt).map(|used| used as u64)
+    let [width, height, rows] = [width, height, rows].map(|number| *number as usize);
+    crate::code_plane(width, height, rows, *qp as u8, plane, file, rebuilt).map(|used| used as u64)
 }
 
 pub fn read_head(arguments: &mut [Argument]) -> Result<u64, Refusal> {
     let [Bytes(file)] = arguments else {
         unreachable!()
     };
-    crate::record::read_head(file).map(|(width, height)| (width + 256 * height) as u64)
+    let layout = crate::record::read_head(file)?;
+    Ok((layout.width + 256 * layout.height + 65536 * layout.rows) as u64)
 }
 
 pub fn decode_plane(arguments: &mut [Argument]) -> Result<u64, Refusal> {

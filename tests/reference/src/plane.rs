@@ -1,25 +1,32 @@
 //! Planes: coding one into a record file and decoding it again ("Plane and
-//! record file" of document 01, request 01 of document 02).
+//! record file" of document 01, requests 01 and 02 of document 02).
 
 use crate::macroblock::{column_and_row, BLOCKS};
-use crate::record::{self, Four, Luma, Macroblock, Sixteen, HEAD, MACROBLOCK};
+use crate::record::{self, Four, Layout, Luma, Macroblock, Sixteen};
 use crate::sixteen::{self, Sides};
 use crate::{code_block, predict, rebuild, Quantizer, Refusal};
 
 /// What stands in the place of a missing neighbour. No answer depends on it.
 const MISSING: u8 = 0xA5;
 
-/// Codes a plane: writes the file and the rebuilt plane, and answers how many
-/// bytes of the file's area it used. Refusals: SIZE, LENGTH, QUANTIZER.
+/// Codes a plane in slices of so many rows: writes the file and the rebuilt
+/// plane, and answers how many bytes of the file's area it used. Refusals: SIZE,
+/// LENGTH, QUANTIZER.
 pub fn code_plane(
     width: usize,
     height: usize,
+    rows: usize,
     qp: u8,
     plane: &[u8],
     file: &mut [u8],
     rebuilt: &mut [u8],
 ) -> Result<usize, Refusal> {
-    code_plane_by(Sads::sixteen_wins, width, height, qp, plane, file, rebuilt)
+    let layout = Layout {
+        width,
+        height,
+        rows,
+    };
+    code_plane_by(Sads::sixteen_wins, layout, qp, plane, file, rebuilt)
 }
 
 /// What the two candidates of a macroblock cost.
@@ -49,27 +56,24 @@ impl Sads {
 /// tests that want to see it or to have it their own way.
 pub fn code_plane_by(
     mut takes_sixteen: impl FnMut(&Sads) -> bool,
-    width: usize,
-    height: usize,
+    layout: Layout,
     qp: u8,
     plane: &[u8],
     file: &mut [u8],
     rebuilt: &mut [u8],
 ) -> Result<usize, Refusal> {
-    record::test_size(width, height)?;
-    let picture = Picture { width, height };
-    let area = HEAD + MACROBLOCK * picture.macroblocks();
+    layout.test()?;
     let lengths = [plane.len(), file.len(), rebuilt.len()];
-    if lengths != [picture.samples(), area, picture.samples()] {
+    if lengths != [layout.samples(), layout.area(), layout.samples()] {
         return Err(Refusal::LENGTH);
     }
     Quantizer::new(qp)?;
 
-    let numbers = 0..picture.macroblocks();
+    let numbers = 0..layout.macroblocks();
     let macroblocks: Vec<Macroblock> = numbers
-        .map(|number| picture.code(number, qp, plane, rebuilt, &mut takes_sixteen))
+        .map(|number| layout.code(number, qp, plane, rebuilt, &mut takes_sixteen))
         .collect();
-    let written = record::file(width, height, &macroblocks)?;
+    let written = record::file(layout, &macroblocks)?;
     file[..written.len()].copy_from_slice(&written);
     Ok(written.len())
 }
@@ -77,15 +81,14 @@ pub fn code_plane_by(
 /// Decodes a record file. Refusals: FORM of the head, SIZE, LENGTH of the
 /// plane, FORM of the records, and then by record QUANTIZER, MODE, RANGE.
 pub fn decode_plane(file: &[u8], plane: &mut [u8]) -> Result<(), Refusal> {
-    let (width, height) = record::read_head(file)?;
-    let picture = Picture { width, height };
-    if plane.len() != picture.samples() {
+    let layout = record::read_head(file)?;
+    if plane.len() != layout.samples() {
         return Err(Refusal::LENGTH);
     }
-    let macroblocks = record::read_records(file, picture.macroblocks())
+    let macroblocks = record::read_records(file, layout.macroblocks())
         .map_err(|broken| broken.refusal(file.len()))?;
     for (number, macroblock) in macroblocks.iter().enumerate() {
-        picture
+        layout
             .test_content(number, macroblock, plane)
             .map_err(|refusal| Refusal {
                 place: 16 * number as u64 + refusal.place,
@@ -97,13 +100,13 @@ pub fn decode_plane(file: &[u8], plane: &mut [u8]) -> Result<(), Refusal> {
         match luma {
             Luma::Four(four) => {
                 for block in 0..16 {
-                    let here = picture.block(number, block);
+                    let here = layout.block(number, block);
                     let samples = decoded(*qp, four, block, &here.neighbours(plane), here.flags())?;
                     here.store(&samples, plane);
                 }
             }
             Luma::Sixteen(sixteen) => {
-                let here = picture.block(number, 0);
+                let here = layout.block(number, 0);
                 let samples = sixteen.decoded(*qp, &here.sides(plane))?;
                 here.store(&samples, plane);
             }
@@ -128,22 +131,7 @@ fn decoded(
     Ok(samples)
 }
 
-/// Width and height in macroblocks.
-#[derive(Clone, Copy)]
-struct Picture {
-    width: usize,
-    height: usize,
-}
-
-impl Picture {
-    fn macroblocks(self) -> usize {
-        self.width * self.height
-    }
-
-    fn samples(self) -> usize {
-        256 * self.macroblocks()
-    }
-
+impl Layout {
     /// A macroblock of the kind that is taken; its samples go into the rebuilt
     /// plane.
     fn code(
@@ -240,37 +228,47 @@ impl Picture {
     fn block(self, macroblock: usize, block: usize) -> Place {
         let (column, row) = column_and_row(block);
         Place {
-            picture: self,
+            layout: self,
             x: (16 * (macroblock % self.width) + 4 * column) as isize,
             y: (16 * (macroblock / self.width) + 4 * row) as isize,
         }
     }
 
-    /// When the block that holds a sample has its turn: macroblocks in raster
-    /// order, and in them the blocks by their numbers. `None` outside.
-    fn turn(self, x: isize, y: isize) -> Option<usize> {
+    /// When the block that holds a sample has its turn. `None` outside.
+    fn turn(self, x: isize, y: isize) -> Option<Turn> {
         let x = usize::try_from(x).ok().filter(|x| *x < 16 * self.width)?;
         let y = usize::try_from(y).ok().filter(|y| *y < 16 * self.height)?;
-        let macroblock = y / 16 * self.width + x / 16;
-        Some(16 * macroblock + BLOCKS[y % 16 / 4][x % 16 / 4])
+        let (column, row) = (x / 16, y / 16);
+        Some(Turn {
+            slice: row / self.rows,
+            number: 16 * (row * self.width + column) + BLOCKS[y % 16 / 4][x % 16 / 4],
+        })
     }
+}
+
+/// The turn of a block: its slice, and its place in the order of the picture,
+/// macroblocks in raster order and in them the blocks by their numbers.
+#[derive(Clone, Copy)]
+struct Turn {
+    slice: usize,
+    number: usize,
 }
 
 /// A block's first sample in its picture; that of block 0 is its macroblock's.
 #[derive(Clone, Copy)]
 struct Place {
-    picture: Picture,
+    layout: Layout,
     x: isize,
     y: isize,
 }
 
 impl Place {
-    /// "A neighbour is present exactly if it lies inside the picture and its
-    /// block comes earlier in this order." Columns and rows count from the
-    /// block's first sample.
+    /// "Present" means "inside the picture, earlier, and in the same slice".
+    /// Columns and rows count from the block's first sample.
     fn present(self, column: isize, row: isize) -> bool {
-        let turn = |column, row| self.picture.turn(self.x + column, self.y + row);
-        turn(column, row).is_some_and(|other| Some(other) < turn(0, 0))
+        let turn = |column, row| self.layout.turn(self.x + column, self.y + row);
+        let own = turn(0, 0).expect("the block is inside");
+        turn(column, row).is_some_and(|other| other.number < own.number && other.slice == own.slice)
     }
 
     /// Bit 0 is A to D, bit 1 I to L, bit 2 M, bit 3 E to H.
@@ -334,6 +332,6 @@ impl Place {
     }
 
     fn index(self, column: isize, row: isize) -> usize {
-        (self.y + row) as usize * 16 * self.picture.width + (self.x + column) as usize
+        (self.y + row) as usize * 16 * self.layout.width + (self.x + column) as usize
     }
 }

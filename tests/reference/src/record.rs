@@ -3,11 +3,105 @@
 
 use crate::Refusal;
 
-/// The bytes of a head.
-pub const HEAD: usize = 8;
 /// The bytes that the area for a coded file counts for each macroblock: those of
 /// the longer kind of record.
 pub const MACROBLOCK: usize = 527;
+
+/// How a picture is cut: its width and height in macroblocks, and the rows of
+/// macroblocks of a slice. "A slice is a run of n whole macroblock rows; the last
+/// may be shorter."
+#[derive(Clone, Copy, Debug, PartialEq, Eq)]
+pub struct Layout {
+    pub width: usize,
+    pub height: usize,
+    pub rows: usize,
+}
+
+impl Layout {
+    pub fn one_slice(width: usize, height: usize) -> Layout {
+        Layout {
+            width,
+            height,
+            rows: height,
+        }
+    }
+
+    pub fn macroblocks(self) -> usize {
+        self.width * self.height
+    }
+
+    pub fn samples(self) -> usize {
+        256 * self.macroblocks()
+    }
+
+    /// "The old head is one slice, and the coder writes it exactly if n is the
+    /// height."
+    pub fn head(self) -> Head {
+        match self.rows == self.height {
+            true => Head::Old,
+            false => Head::New,
+        }
+    }
+
+    /// The bytes that are lent to the coder for the file.
+    pub fn area(self) -> usize {
+        self.head().bytes() + MACROBLOCK * self.macroblocks()
+    }
+
+    /// SIZE of the dimensions; then SIZE if the rows of a slice are 0 or above the
+    /// height.
+    pub(crate) fn test(self) -> Result<(), Refusal> {
+        test_size(self.width, self.height)?;
+        match (1..=self.height).contains(&self.rows) {
+            true => Ok(()),
+            false => Err(Refusal::SIZE),
+        }
+    }
+}
+
+/// The two kinds of a head.
+#[derive(Clone, Copy, Debug, PartialEq, Eq)]
+pub enum Head {
+    /// Width and height (document 01); the picture is one slice.
+    Old,
+    /// And the rows of a slice (request 02).
+    New,
+}
+
+impl Head {
+    pub const ALL: [Head; 2] = [Head::Old, Head::New];
+
+    pub fn mark(self) -> [u8; 2] {
+        match self {
+            Head::Old => [0x48, 0x44],
+            Head::New => [0x48, 0x53],
+        }
+    }
+
+    /// The bytes of a head, from its mark to its sum.
+    pub fn bytes(self) -> usize {
+        match self {
+            Head::Old => 8,
+            Head::New => 10,
+        }
+    }
+
+    /// The kind that a file begins with.
+    pub fn of(file: &[u8]) -> Option<Head> {
+        let begins = |head: &Head| file.starts_with(&head.mark());
+        Head::ALL.into_iter().find(begins)
+    }
+
+    /// The head of these numbers, which need not be a picture's.
+    pub fn written(self, width: u16, height: u16, rows: u16) -> Vec<u8> {
+        let mut head = self.mark().to_vec();
+        head.extend([width, height].map(u16::to_be_bytes).as_flattened());
+        if self == Head::New {
+            head.extend(rows.to_be_bytes());
+        }
+        with_sum(head)
+    }
+}
 
 /// The two kinds of a macroblock's record.
 #[derive(Clone, Copy, Debug, PartialEq, Eq)]
@@ -67,32 +161,56 @@ pub struct Sixteen {
     pub ac: [[i16; 15]; 16],
 }
 
-/// The head of a picture of `width` times `height` macroblocks; SIZE if a
-/// dimension is 0 or above 128.
-pub fn head(width: usize, height: usize) -> Result<[u8; HEAD], Refusal> {
-    test_size(width, height)?;
-    let mut head = b"HD".to_vec();
-    head.extend((width as u16).to_be_bytes());
-    head.extend((height as u16).to_be_bytes());
-    let head = with_sum(head).try_into();
-    Ok(head.expect("the parts have their lengths"))
+/// The head that the coder writes. Refusals: SIZE.
+pub fn head(layout: Layout) -> Result<Vec<u8>, Refusal> {
+    head_of(layout.head(), layout)
 }
 
-/// Width and height of the head that a file begins with.
-/// Refusals: FORM (short, mark, sum), SIZE.
-pub fn read_head(file: &[u8]) -> Result<(usize, usize), Refusal> {
-    let (head, _) = file.split_first_chunk::<HEAD>().ok_or(Refusal::form(0))?;
-    if !head.starts_with(b"HD") || !sum_is_right(head) {
-        return Err(Refusal::form(0));
+fn head_of(head: Head, layout: Layout) -> Result<Vec<u8>, Refusal> {
+    layout.test()?;
+    let [width, height, rows] =
+        [layout.width, layout.height, layout.rows].map(|number| number as u16);
+    Ok(head.written(width, height, rows))
+}
+
+/// What the head that a file begins with says.
+/// Refusals: FORM (mark cut, mark, rest cut, sum), SIZE.
+pub fn read_head(file: &[u8]) -> Result<Layout, Refusal> {
+    let form = Refusal::form(0);
+    let kind = Head::of(file).ok_or(form)?;
+    let head = file.get(..kind.bytes()).ok_or(form)?;
+    if !sum_is_right(head) {
+        return Err(form);
     }
-    let [width, height] = [2, 4].map(|at| usize::from(number(head, at)));
-    test_size(width, height)?;
-    Ok((width, height))
+    let field = |at: usize| usize::from(number(head, at));
+    let (width, height) = (field(2), field(4));
+    let rows = match kind {
+        Head::Old => height,
+        Head::New => field(6),
+    };
+    let layout = Layout {
+        width,
+        height,
+        rows,
+    };
+    layout.test()?;
+    Ok(layout)
 }
 
-/// The head and each macroblock once, in order. Refusals: SIZE.
-pub fn file(width: usize, height: usize, macroblocks: &[Macroblock]) -> Result<Vec<u8>, Refusal> {
-    let mut file = head(width, height)?.to_vec();
+/// The head that the coder writes and each macroblock once, in order. Refusals:
+/// SIZE.
+pub fn file(layout: Layout, macroblocks: &[Macroblock]) -> Result<Vec<u8>, Refusal> {
+    file_with(layout.head(), layout, macroblocks)
+}
+
+/// The same with a head of either kind: a decoder takes the new one for one
+/// slice too. Refusals: SIZE.
+pub fn file_with(
+    head: Head,
+    layout: Layout,
+    macroblocks: &[Macroblock],
+) -> Result<Vec<u8>, Refusal> {
+    let mut file = head_of(head, layout)?;
     for (number, macroblock) in macroblocks.iter().enumerate() {
         file.extend(macroblock.record(number as u16));
     }
@@ -129,11 +247,12 @@ impl Broken {
     }
 }
 
-/// So many macroblocks, behind the head of a file: "Per record now cut mark,
-/// mark, cut rest, number, sum; bytes after the last record come at the end".
+/// So many macroblocks, behind the head of a file, which is sound: "Per record
+/// now cut mark, mark, cut rest, number, sum; bytes after the last record come at
+/// the end".
 pub fn read_records(file: &[u8], count: usize) -> Result<Vec<Macroblock>, Broken> {
     let mut macroblocks = Vec::new();
-    let mut at = HEAD;
+    let mut at = Head::of(file).expect("the head is sound").bytes();
     for expected in 0..count {
         let broken = |fault| Broken { fault, record: at };
         let rest = &file[at..];

@@ -1,5 +1,6 @@
 //! The measured pieces of document 01, through the entry points.
 
+use reference::record::Layout;
 use reference::{
     choose, chroma_dc_levels, chroma_dc_values, chroma_quantizer, code_block, forward, levels,
     luma_dc_levels, luma_dc_values, predict, rebuild, rebuild_with_dc, record, Choice, Mode,
@@ -137,20 +138,39 @@ fn chroma_quantizer_whole_range() {
     }
 }
 
+const SIZE: Refusal = Refusal {
+    number: 8,
+    place: 0,
+};
+
 #[test]
 fn head_of_a_1x1_picture() {
-    assert_eq!(
-        record::head(1, 1),
-        Ok([0x48, 0x44, 0x00, 0x01, 0x00, 0x01, 0x00, 0x8E])
-    );
-    let size = Refusal {
-        number: 8,
-        place: 0,
-    };
+    let head = |width, height| record::head(Layout::one_slice(width, height));
+    let expected = [0x48, 0x44, 0x00, 0x01, 0x00, 0x01, 0x00, 0x8E];
+    assert_eq!(head(1, 1), Ok(expected.to_vec()));
     for (width, height) in [(0, 1), (1, 0), (129, 1), (1, 129), (usize::MAX, 1)] {
-        assert_eq!(record::head(width, height), Err(size));
+        assert_eq!(head(width, height), Err(SIZE));
     }
-    assert!(record::head(128, 128).is_ok());
+    assert!(head(128, 128).is_ok());
+}
+
+/// By hand: 48 53, 1, 2, 1 add up to 159.
+#[test]
+fn head_of_two_slices() {
+    let head = |height, rows| {
+        record::head(Layout {
+            width: 1,
+            height,
+            rows,
+        })
+    };
+    let expected = [0x48, 0x53, 0x00, 0x01, 0x00, 0x02, 0x00, 0x01, 0x00, 0x9F];
+    assert_eq!(head(2, 1), Ok(expected.to_vec()));
+    let one_slice = [0x48, 0x44, 0x00, 0x01, 0x00, 0x02, 0x00, 0x8F];
+    assert_eq!(head(2, 2), Ok(one_slice.to_vec()));
+    for (height, rows) in [(2, 0), (2, 3), (128, 129), (2, 65535), (2, usize::MAX)] {
+        assert_eq!(head(height, rows), Err(SIZE));
+    }
 }
 
 #[test]

@@ -5,7 +5,8 @@ use std::fs;
 use std::path::Path;
 
 use reference::extremes::{dc_edges, dc_levels_at};
-use reference::record::{self, read_head, read_records, Fault, Kind, Luma, Macroblock};
+use reference::record::{self, read_head, read_records};
+use reference::record::{Fault, Head, Kind, Layout, Luma, Macroblock};
 use reference::{code_plane, code_plane_by, decode_plane, Refusal};
 
 const LENGTH: Refusal = refusal(1, 0);
@@ -25,9 +26,17 @@ const fn form(place: usize) -> Refusal {
 /// What outputs hold before a call.
 const UNTOUCHED: u8 = 0x5A;
 
-/// The area that is lent for the file of so many macroblocks.
+/// The area that is lent for the file of so many macroblocks in one slice.
 fn area(macroblocks: usize) -> usize {
     8 + 527 * macroblocks
+}
+
+fn sliced(width: usize, height: usize, rows: usize) -> Layout {
+    Layout {
+        width,
+        height,
+        rows,
+    }
 }
 
 fn directory() -> std::path::PathBuf {
@@ -53,6 +62,8 @@ fn names(folder: &str, kind: &str) -> Vec<String> {
 const BASE: &str = ".";
 /// Those of both kinds.
 const BOTH: &str = "sixteen";
+/// Those in slices, of both kinds.
+const SLICES: &str = "slices";
 
 /// What decoding gives, from two planes that differ in every bit at the start.
 fn decodes(file: &[u8], samples: usize) -> Vec<u8> {
@@ -74,7 +85,7 @@ fn refuses(expected: Refusal, file: &[u8], samples: usize) {
 
 #[test]
 fn decodes_what_an_outside_decoder_rebuilt() {
-    for (folder, count) in [(BASE, 24), (BOTH, 20)] {
+    for (folder, count) in [(BASE, 24), (BOTH, 20), (SLICES, 16)] {
         let names = names(folder, ".rec");
         assert_eq!(names.len(), count);
         for name in names {
@@ -88,15 +99,13 @@ fn decodes_what_an_outside_decoder_rebuilt() {
 /// The original with its size and QP, the outside's file and rebuilt plane.
 fn originals(folder: &str) -> impl Iterator<Item = (Original, Vec<u8>, Vec<u8>)> {
     let names = names(folder, ".original");
-    assert_eq!(names.len(), 12);
+    assert_eq!(names.len(), if folder == SLICES { 8 } else { 12 });
     names.into_iter().map(|name| {
         let file = data(&format!("{name}.rec"));
-        let (width, height) = read_head(&file).expect("it is a record file");
         let qp = name.rsplit('-').next().expect("the QP ends the name");
         let original = Original {
             qp: qp.parse().expect("the QP ends the name"),
-            width,
-            height,
+            layout: read_head(&file).expect("it is a record file"),
             plane: data(&format!("{name}.original")),
         };
         (original, file, data(&format!("{name}.plane")))
@@ -105,8 +114,7 @@ fn originals(folder: &str) -> impl Iterator<Item = (Original, Vec<u8>, Vec<u8>)>
 
 struct Original {
     qp: u8,
-    width: usize,
-    height: usize,
+    layout: Layout,
     plane: Vec<u8>,
 }
 
@@ -114,23 +122,11 @@ impl Original {
     /// The bytes used of the file's area, and the rebuilt plane. The rest of
     /// the area keeps its bytes.
     fn coded(&self, takes_sixteen: impl FnMut(&reference::Sads) -> bool) -> (Vec<u8>, Vec<u8>) {
-        let Original {
-            qp,
-            width,
-            height,
-            plane,
-        } = self;
-        let mut file = vec![UNTOUCHED; area(width * height)];
+        let Original { qp, layout, plane } = self;
+        let mut file = vec![UNTOUCHED; layout.area()];
         let mut rebuilt = vec![UNTOUCHED; plane.len()];
-        let answer = code_plane_by(
-            takes_sixteen,
-            *width,
-            *height,
-            *qp,
-            plane,
-            &mut file,
-            &mut rebuilt,
-        );
+        let outputs = (&mut file, &mut rebuilt);
+        let answer = code_plane_by(takes_sixteen, *layout, *qp, plane, outputs.0, outputs.1);
         let rest = file.split_off(answer.expect("it is a picture"));
         assert!(rest.iter().all(|&byte| byte == UNTOUCHED));
         (file, rebuilt)
@@ -142,7 +138,7 @@ const ITSELF: fn(&reference::Sads) -> bool = reference::Sads::sixteen_wins;
 
 #[test]
 fn codes_what_an_outside_coder_wrote() {
-    for (original, file, plane) in originals(BOTH) {
+    for (original, file, plane) in originals(BOTH).chain(originals(SLICES)) {
         assert_eq!(original.coded(ITSELF), (file, plane));
     }
 }
@@ -196,40 +192,117 @@ fn slope(width: usize, height: usize) -> Vec<u8> {
     (0..256 * width * height).map(sample).collect()
 }
 
-#[test]
-fn the_decoder_rebuilds_what_the_coder_rebuilt() {
-    let mut kinds = [0; 2];
-    for (width, height) in [(1, 1), (1, 3), (2, 2), (5, 1), (3, 4)] {
-        let count = width * height;
-        for plane in [some_plane(256 * count), slope(width, height)] {
-            for qp in [0, 23, 51] {
-                let mut file = vec![0; area(count)];
-                let mut rebuilt = vec![0; plane.len()];
-                let used = code_plane(width, height, qp, &plane, &mut file, &mut rebuilt);
-                file.truncate(used.expect("it is a picture"));
-                assert_eq!(decodes(&file, plane.len()), rebuilt);
-                for macroblock in read_records(&file, count).expect("it is whole") {
-                    kinds[macroblock.kind() as usize] += 1;
+/// Every number of rows of each size, with both kinds of planes and some QPs.
+fn every_layout(mut each: impl FnMut(&Original)) {
+    for (width, height) in [(1, 1), (1, 3), (2, 2), (5, 1), (3, 4), (2, 5)] {
+        for rows in 1..=height {
+            let layout = sliced(width, height, rows);
+            for plane in [some_plane(layout.samples()), slope(width, height)] {
+                for qp in [0, 23, 51] {
+                    let plane = plane.clone();
+                    each(&Original { qp, layout, plane });
                 }
             }
         }
     }
+}
+
+#[test]
+fn the_decoder_rebuilds_what_the_coder_rebuilt() {
+    let mut kinds = [0; 2];
+    every_layout(|original| {
+        let layout = original.layout;
+        let (file, rebuilt) = original.coded(ITSELF);
+        assert_eq!(read_head(&file), Ok(layout));
+        assert_eq!(decodes(&file, layout.samples()), rebuilt);
+        for macroblock in read_records(&file, layout.macroblocks()).expect("it is whole") {
+            kinds[macroblock.kind() as usize] += 1;
+        }
+    });
     assert!(kinds.iter().all(|&count| count > 0), "{kinds:?}");
+}
+
+/// "The old head is one slice, and the coder writes it exactly if n is the
+/// height."
+#[test]
+fn the_old_head_is_one_slice() {
+    let mut heads = [0; 2];
+    every_layout(|original| {
+        let Layout { height, rows, .. } = original.layout;
+        let (file, _) = original.coded(ITSELF);
+        let head = Head::of(&file).expect("it is a record file");
+        assert_eq!(head == Head::Old, rows == height);
+        heads[head as usize] += 1;
+    });
+    assert!(heads.iter().all(|&count| count > 0), "{heads:?}");
+    // A decoder takes the new one for one slice too.
+    for (original, file, plane) in originals(BOTH) {
+        let Layout { width, height, .. } = original.layout;
+        let [width, height] = [width, height].map(|side| side as u16);
+        let head = Head::New.written(width, height, height);
+        let longer = [&head, &file[8..]].concat();
+        assert_eq!(read_head(&longer), Ok(original.layout));
+        assert_eq!(decodes(&longer, plane.len()), plane);
+    }
+}
+
+/// A slice is coded as if its rows were a picture of their own: nothing above it
+/// counts. Its records differ in their numbers alone.
+#[test]
+fn a_slice_stands_alone() {
+    let mut shorter = 0;
+    every_layout(|original| {
+        let Layout { width, rows, .. } = original.layout;
+        let (file, rebuilt) = original.coded(ITSELF);
+        let whole = read_records(&file, original.layout.macroblocks()).expect("it is whole");
+        let band = 256 * width * rows;
+        let bands = original.plane.chunks(band).zip(rebuilt.chunks(band));
+        for (slice, (plane, rebuilt)) in bands.enumerate() {
+            let alone = Original {
+                qp: original.qp,
+                layout: Layout::one_slice(width, plane.len() / 256 / width),
+                plane: plane.to_vec(),
+            };
+            shorter += usize::from(alone.layout.height < rows);
+            let (file, own) = alone.coded(ITSELF);
+            assert_eq!(own, rebuilt);
+            let records = read_records(&file, alone.layout.macroblocks()).expect("it is whole");
+            let first = slice * width * rows;
+            for (number, record) in records.iter().enumerate() {
+                assert_eq!(record.record(0), whole[first + number].record(0));
+            }
+        }
+    });
+    assert!(shorter > 0, "no last slice was shorter");
 }
 
 /// Both candidates of a grey macroblock cost nothing: a tie, which 4x4 wins.
 #[test]
 fn a_tie_is_4x4() {
     let (mut file, mut rebuilt) = (vec![0; area(1)], vec![0; 256]);
-    let used = code_plane(1, 1, 28, &[128; 256], &mut file, &mut rebuilt);
+    let used = code_plane(1, 1, 1, 28, &[128; 256], &mut file, &mut rebuilt);
     assert_eq!(used, Ok(area(1)));
     assert_eq!(file[8..10], Kind::Four.mark());
 }
 
 /// The 2x2 files, of which the tests below change a byte or more: one of 4x4
-/// records, one with the kinds 16x16, 16x16, 16x16, 4x4.
-fn two_by_twos() -> [Vec<u8>; 2] {
-    ["random-04.rec", "sixteen/random-04.rec"].map(data)
+/// records, one with the kinds 16x16, 16x16, 16x16, 4x4, and one of both kinds in
+/// two slices.
+fn two_by_twos() -> [Vec<u8>; 3] {
+    let [four, both] = ["random-04.rec", "sixteen/random-04.rec"].map(data);
+    let plane = slope(2, 2);
+    let layout = sliced(2, 2, 1);
+    let (slices, _) = Original {
+        qp: 20,
+        layout,
+        plane,
+    }
+    .coded(ITSELF);
+    [four, both, slices]
+}
+
+fn head_bytes(file: &[u8]) -> usize {
+    Head::of(file).expect("it is a record file").bytes()
 }
 
 fn macroblocks(file: &[u8]) -> Vec<Macroblock> {
@@ -239,14 +312,15 @@ fn macroblocks(file: &[u8]) -> Vec<Macroblock> {
 /// The first byte of a macroblock's record; of one behind the last, the end.
 fn record_place(file: &[u8], number: usize) -> usize {
     let earlier = &macroblocks(file)[..number];
-    8 + earlier.iter().map(|it| it.kind().bytes()).sum::<usize>()
+    head_bytes(file) + earlier.iter().map(|it| it.kind().bytes()).sum::<usize>()
 }
 
 /// A 2x2 file with one macroblock changed and its sum right again.
 fn with_changed(file: &[u8], number: usize, change: impl FnOnce(&mut Macroblock)) -> Vec<u8> {
     let mut macroblocks = macroblocks(file);
     change(&mut macroblocks[number]);
-    record::file(2, 2, &macroblocks).expect("it is a size")
+    let layout = read_head(file).expect("it is whole");
+    record::file(layout, &macroblocks).expect("it is a size")
 }
 
 #[test]
@@ -261,7 +335,7 @@ fn a_changed_byte_is_the_head_or_the_record_it_stands_in() {
     for file in two_by_twos() {
         for number in 0..=4 {
             let (first, end, expected) = match number {
-                4 => (0, 8, form(0)),
+                4 => (0, head_bytes(&file), form(0)),
                 _ => {
                     let first = record_place(&file, number);
                     (first, record_place(&file, number + 1), form(first))
@@ -283,8 +357,12 @@ fn a_changed_byte_is_the_head_or_the_record_it_stands_in() {
 fn a_cut_and_a_surplus_have_the_length_as_place() {
     for file in two_by_twos() {
         for length in 0..file.len() {
-            let expected = if length < 8 { form(0) } else { form(length) };
-            refuses(expected, &file[..length], 1024);
+            let in_head = length < head_bytes(&file);
+            refuses(
+                form(if in_head { 0 } else { length }),
+                &file[..length],
+                1024,
+            );
         }
         let more = macroblocks(&file)[3].record(4);
         for surplus in [vec![0], vec![0x4D, 0x42], vec![0; 527], more] {
@@ -298,8 +376,7 @@ fn a_cut_and_a_surplus_have_the_length_as_place() {
 /// whatever comes behind it; bytes after the last record come at the end.
 #[test]
 fn form_has_its_order() {
-    let [four, both] = two_by_twos();
-    for file in [four, both] {
+    for file in two_by_twos() {
         let broken = |file: &[u8]| read_records(file, 4).err().map(|broken| broken.fault);
         for number in 0..4 {
             let first = record_place(&file, number);
@@ -339,7 +416,7 @@ fn form_has_its_order() {
 /// kind's length.
 #[test]
 fn a_mark_says_how_long_the_record_is() {
-    let [four, both] = two_by_twos();
+    let [four, both, _] = two_by_twos();
     let mut file = four.clone();
     let first = record_place(&file, 3);
     file[first + 1] = 0x36;
@@ -373,19 +450,24 @@ fn records_have_their_order() {
             .zip(&macroblocks)
             .map(|(number, macroblock)| macroblock.record(number))
             .collect();
-        refuses(form(8), &[&file[..8], &records.concat()].concat(), 1024);
+        let (head, _) = file.split_at(head_bytes(&file));
+        refuses(form(head.len()), &[head, &records.concat()].concat(), 1024);
     }
 }
 
 #[test]
 fn a_head_asks_for_a_size() {
     for (width, height) in [(0, 1), (1, 0), (129, 1), (1, 129), (0x8000, 1), (1, 0xFFFF)] {
-        let mut head = b"HD".to_vec();
-        head.extend([width >> 8, width & 255, height >> 8, height & 255].map(|byte| byte as u8));
-        let sum: u16 = head.iter().map(|&byte| u16::from(byte)).sum();
-        head.extend(sum.to_be_bytes());
+        for head in Head::ALL {
+            let head = head.written(width, height, 1);
+            assert_eq!(read_head(&head), Err(SIZE));
+            refuses(SIZE, &head, 256);
+        }
+    }
+    for (height, rows) in [(1, 0), (1, 2), (128, 129), (3, 256), (3, 65535), (0, 0)] {
+        let head = Head::New.written(1, height, rows);
         assert_eq!(read_head(&head), Err(SIZE));
-        refuses(SIZE, &head, 256);
+        refuses(SIZE, &head, 256 * usize::from(height));
     }
     // The plane's length comes before the form of the records.
     for file in two_by_twos() {
@@ -396,9 +478,39 @@ fn a_head_asks_for_a_size() {
     }
 }
 
+/// Marks, and what a mark promises: a head that is cut, of either kind and also
+/// where the other kind's length is there, or has a mark of neither.
+#[test]
+fn a_head_has_its_form() {
+    for head in [Head::Old.written(2, 3, 1), Head::New.written(2, 3, 1)] {
+        for length in 0..head.len() {
+            assert_eq!(read_head(&head[..length]), Err(form(0)));
+        }
+        assert!(read_head(&head).is_ok());
+        for place in 0..head.len() {
+            // No other value of a single byte leaves a sum of bytes as it was, nor is
+            // the rest of a head of the other kind one of its own.
+            for change in 1..=255 {
+                let mut changed = head.clone();
+                changed[place] ^= change;
+                changed.extend([0; 4]);
+                assert_eq!(read_head(&changed), Err(form(0)));
+            }
+        }
+    }
+    // The sum is right for a mark that is none.
+    for mark in [*b"HE", *b"IS", *b"MB", [0, 0]] {
+        let mut head = Head::New.written(1, 1, 1);
+        head[..2].copy_from_slice(&mark);
+        let sum: u16 = head[..8].iter().map(|&byte| u16::from(byte)).sum();
+        head[8..].copy_from_slice(&sum.to_be_bytes());
+        assert_eq!(read_head(&head), Err(form(0)));
+    }
+}
+
 #[test]
 fn content_of_4x4_has_its_order_and_its_place() {
-    let [file, _] = two_by_twos();
+    let [file, ..] = two_by_twos();
     let with_changed = |number, change: &dyn Fn(&mut u8, &mut record::Four)| {
         with_changed(&file, number, |macroblock| {
             let Luma::Four(four) = &mut macroblock.luma else {
@@ -435,6 +547,15 @@ fn content_of_4x4_has_its_order_and_its_place() {
 
 /// A 2x2 file of 16x16 records that are grey throughout, with one changed.
 fn grey_but(number: usize, change: impl FnOnce(&mut u8, &mut record::Sixteen)) -> Vec<u8> {
+    grey_in_slices(2, number, change)
+}
+
+/// The same in slices of so many rows.
+fn grey_in_slices(
+    rows: usize,
+    number: usize,
+    change: impl FnOnce(&mut u8, &mut record::Sixteen),
+) -> Vec<u8> {
     let mut grey: Vec<(u8, record::Sixteen)> = (0..4)
         .map(|_| {
             let sixteen = record::Sixteen {
@@ -454,7 +575,7 @@ fn grey_but(number: usize, change: impl FnOnce(&mut u8, &mut record::Sixteen)) -
             luma: Luma::Sixteen(sixteen),
         })
         .collect();
-    record::file(2, 2, &macroblocks).expect("it is a size")
+    record::file(sliced(2, 2, rows), &macroblocks).expect("it is a size")
 }
 
 #[test]
@@ -509,6 +630,40 @@ fn content_of_16x16_has_its_order_and_its_place() {
     }
 }
 
+/// In slices of one row nothing is above: no mode that needs it is permitted, and
+/// what is left has what the first row has.
+#[test]
+fn modes_need_what_is_in_their_slice() {
+    for number in 0..4 {
+        for mode in 0..4 {
+            let file = grey_in_slices(1, number, |_, sixteen| sixteen.mode = mode);
+            match (mode, number % 2) {
+                (1, 1) | (2, _) => assert_eq!(decodes(&file, 1024), [128; 1024]),
+                _ => refuses(refusal(3, 16 * number), &file, 1024),
+            }
+        }
+    }
+    // The blocks of the upper edge lack what is above them; block 2, below, has it.
+    let [_, _, slices] = two_by_twos();
+    let last = record_place(&slices, 2);
+    let four = Luma::Four(record::Four {
+        modes: [2; 16],
+        levels: [[0; 16]; 16],
+    });
+    for (block, mode) in [(0, 0), (1, 4), (4, 3), (5, 7)] {
+        let file = with_changed(&slices, 2, |macroblock| {
+            macroblock.luma = four.clone();
+            let Luma::Four(four) = &mut macroblock.luma else {
+                unreachable!()
+            };
+            four.modes[2] = 0;
+            four.modes[block] = mode;
+        });
+        assert_eq!(file[..last], slices[..last]);
+        refuses(refusal(3, 32 + block), &file, 1024);
+    }
+}
+
 /// For every QP and place: the DC values next to the ends of 16 bits.
 #[test]
 fn dc_values_have_16_bits() {
@@ -548,29 +703,36 @@ fn form_comes_before_content() {
 
 #[test]
 fn code_plane_refuses() {
-    let call = |width: usize, height: usize, qp: u8, lengths: [usize; 3]| {
-        let [plane, file, rebuilt] = lengths.map(|length| vec![UNTOUCHED; length]);
-        let (mut file, mut rebuilt) = (file, rebuilt);
-        let answer = code_plane(width, height, qp, &plane, &mut file, &mut rebuilt);
+    let call = |[width, height, rows]: [usize; 3], qp: u8, lengths: [usize; 3]| {
+        let [plane, mut file, mut rebuilt] = lengths.map(|length| vec![UNTOUCHED; length]);
+        let answer = code_plane(width, height, rows, qp, &plane, &mut file, &mut rebuilt);
         let untouched = file.iter().chain(&rebuilt).all(|&byte| byte == UNTOUCHED);
         assert!(untouched || answer.is_ok());
         answer
     };
     for size in [0, 129, usize::MAX] {
-        assert_eq!(call(size, 1, 52, [0, 0, 0]), Err(SIZE));
-        assert_eq!(call(1, size, 52, [0, 0, 0]), Err(SIZE));
+        assert_eq!(call([size, 1, 1], 52, [0, 0, 0]), Err(SIZE));
+        assert_eq!(call([1, size, 1], 52, [0, 0, 0]), Err(SIZE));
+        assert_eq!(call([1, size, size], 52, [0, 0, 0]), Err(SIZE));
     }
-    let right = [512, area(2), 512];
-    for output in 0..3 {
-        // An area of just the bytes that are used is none either.
-        for wrong in [0, right[output] - 1, right[output] + 1, right[output] - 7] {
-            let mut lengths = right;
-            lengths[output] = wrong;
-            assert_eq!(call(2, 1, 52, lengths), Err(LENGTH));
+    for (height, rows) in [(2, 0), (2, 3), (2, 65535), (2, usize::MAX), (128, 129)] {
+        assert_eq!(call([1, height, rows], 52, [0, 0, 0]), Err(SIZE));
+    }
+    // The area counts the head that this call writes.
+    for (size, head) in [([2, 1, 1], 8), ([1, 2, 1], 10), ([1, 2, 2], 8)] {
+        let right = [512, head + 527 * 2, 512];
+        for output in 0..3 {
+            // An area of just the bytes that are used is none either.
+            let off = [1, 2, 7].map(|by| [right[output] - by, right[output] + by]);
+            for wrong in off.concat().into_iter().chain([0]) {
+                let mut lengths = right;
+                lengths[output] = wrong;
+                assert_eq!(call(size, 52, lengths), Err(LENGTH));
+            }
         }
+        for qp in 52..=255 {
+            assert_eq!(call(size, qp, right), Err(refusal(2, 0)));
+        }
+        assert_eq!(call(size, 51, right), Ok(right[1]));
     }
-    for qp in 52..=255 {
-        assert_eq!(call(2, 1, qp, right), Err(refusal(2, 0)));
-    }
-    assert_eq!(call(2, 1, 51, right), Ok(right[1]));
 }

@@ -3,11 +3,11 @@ use mathlib.Core.List.{List}
 use Prim.Native.Nat.{ℕ, _<_}
 use native.Mathlib.Omega.{arith}
 use borrow.Author.Needs.{needs}
-use Rattle.picture.specs.Plane.{layoutOf}
 use Rattle.picture.proofs.Plane.{samples-fit}
-use Rattle.plane.specs.Code.{bytesUsed, CodesPlane}
+use Rattle.plane.specs.Code.{inSlices, bytesUsed, CodesPlane}
 use Rattle.plane.specs.declared.CodedPlane.{CodedPlane}
 use Rattle.plane.specs.declared.CodedPlane.the-variants.{Bytes, Refused}
+use Rattle.head.proofs.Back.{long-most}
 use Rattle.plane.proofs.CodedFile.{length-coded-file}
 use Rattle.plane.proofs.CodedOutcome.{outcome}
 use Rattle.plane.proofs.Entry.{sound-of}
@@ -17,12 +17,12 @@ use Rattle.fleecebutton.proofs.fb_code_plane.Statement.{statement}
 use Rattle.fleecebutton.proofs.fb_code_plane.Tie as tie
 
 -- the file of the largest picture is far below what a word can tell
-small : {width height qp : ℕ} {plane file rebuilt : List ℕ} (r : CodedPlane) {file′ rebuilt′ : List ℕ}
-    → CodesPlane width height qp plane file rebuilt r file′ rebuilt′
+small : {width height rows qp : ℕ} {plane file rebuilt : List ℕ} (r : CodedPlane) {file′ rebuilt′ : List ℕ}
+    → CodesPlane width height rows qp plane file rebuilt r file′ rebuilt′
     → bytesUsed r < places
-small {width} {height} {qp} {plane} {file} {rebuilt} (Bytes used) {file′} {rebuilt′} p =
-    let o = outcome width height qp plane file rebuilt used file′ rebuilt′ p in
-    omega (arith, o .bytes, length-coded-file (layoutOf width height) qp plane, samples-fit (sound-of width height (o .size)))
+small {width} {height} {rows} {qp} {plane} {file} {rebuilt} (Bytes used) {file′} {rebuilt′} p =
+    let o = outcome width height rows qp plane file rebuilt used file′ rebuilt′ p in
+    omega (arith, o .bytes, length-coded-file (inSlices width height rows) qp plane, samples-fit (sound-of width height rows (o .size) (o .sliced)), long-most width height rows)
 small (Refused r) p = omega arith
 
 of-plane-requires : tie.Need-of-plane-requires

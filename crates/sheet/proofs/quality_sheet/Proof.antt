@@ -6,7 +6,7 @@ use native.Mathlib.Omega.{arith}
 use borrow.Author.Needs.{needs}
 use borrow.Author.Tests.{not-true, not-false}
 use lib.ListN.{length}
-use Rattle.record.specs.Entry.{sizeHolds}
+use Rattle.head.specs.Entry.{sizeHolds}
 use Rattle.picture.proofs.Plane.{samples-fit}
 use Rattle.sheet.proofs.Outcome.{sound-of, bad-size, original-missed, rebuilt-missed, map-missed, bad-flag, sheet-made}
 use Rattle.sheet.proofs.Places.{count-low}

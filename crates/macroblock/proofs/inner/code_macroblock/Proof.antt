@@ -1,5 +1,5 @@
 -- `macroblock::inner::code_macroblock` meets its contract: both candidates, and the record and the samples of the one that is taken. Assumes nothing.
-use mathlib.Core.Path.{_≡_, refl, sym, ap, subst, _∙_}
+use mathlib.Core.Path.{_≡_, sym, ap, subst, _∙_}
 use mathlib.Core.List.{List}
 use Prim.Native.Nat.{ℕ, _<_}
 use native.Mathlib.Omega.{arith}

@@ -2,7 +2,6 @@
 use mathlib.Core.Path.{_≡_, sym, ap, _∙_}
 use mathlib.Core.Bool.{true, false}
 use native.Mathlib.Omega.{arith}
-use borrow.Author.Needs.{needs}
 use Rattle.lists.specs.Chain.{chain}
 use Rattle.record.specs.Records.{isWhole}
 use Rattle.macroblock.proofs.Contents.{kind-long, tests-whole, tests-fours}

@@ -3,7 +3,7 @@ use mathlib.Core.Path.{refl, sym, ap, _∙_}
 use Prim.Native.Nat.{ℕ, _*_}
 use lib.ListN.{length}
 use borrow.Author.Needs.{needs}
-use Rattle.record.specs.Numbers.{levelBytes}
+use Rattle.octets.specs.Numbers.{levelBytes}
 use Rattle.picture.specs.Plane.{gathered}
 use Rattle.macroblock4.proofs.RecordFrom.{length-levels-from}
 use Rattle.macroblock4.proofs.Coding.{BlockCoded, block-coded, turn-coded}

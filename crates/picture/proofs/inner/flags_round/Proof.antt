@@ -14,7 +14,7 @@ returns c =
     let s = above .before in
     let a = s .pre in
     rw (
-      flags-round-by (s .args .layout) (a .sound .some) (s .args .m) (a .macroblock) 16 (omega arith),
+      flags-round-by (s .args .layout) (a .sound .some) (s .args .m) (a .macroblock) 16 (omega arith) (a .sound .rows),
       c .flag3 .ensures .0,
       corner .has-corner .ensures,
       corner .before .flag2 .ensures .0,

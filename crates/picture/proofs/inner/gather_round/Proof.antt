@@ -21,10 +21,10 @@ mul-stride c =
 
 -- ---- what the tests and the place are
 
-corner-known : (c : tie.After-has-corner) → let s = c .before .before .before .before .before in c .has-corner .result ≡ (ltb 0 (s .args .m / s .args .layout .width) && ltb 0 (s .args .m % s .args .layout .width))
+corner-known : (c : tie.After-has-corner) → let s = c .before .before .before .before .before in c .has-corner .result ≡ (ltb 0 (s .args .m / s .args .layout .width % s .args .layout .rows) && ltb 0 (s .args .m % s .args .layout .width))
 corner-known c = c .has-corner .ensures ∙ first-corner (c .before .before .before .before .before .pre .0 .0)
 
-above-known : (c : tie.After-has-above) → let s = c .before .before .before .before .before .before in c .has-above .result ≡ ltb 0 (s .args .m / s .args .layout .width)
+above-known : (c : tie.After-has-above) → let s = c .before .before .before .before .before .before in c .has-above .result ≡ ltb 0 (s .args .m / s .args .layout .width % s .args .layout .rows)
 above-known c = c .has-above .ensures ∙ first-above (c .before .before .before .before .before .before .pre .0 .0)
 
 left-known : (c : tie.After-has-left) → let s = c .before .before .before .before .before .before .before in c .has-left .result ≡ ltb 0 (s .args .m % s .args .layout .width)

@@ -4,12 +4,12 @@ use Prim.Native.Nat.{_+_, _*_, _-_, _≤_}
 use lib.ListN.{length}
 use Rattle.lists.proofs.Over.{length-over}
 use Rattle.record.specs.Kinds.{inFours, lengthOf}
-use Rattle.record.specs.Records.{headOf}
-use Rattle.record.proofs.Back.{length-head}
+use Rattle.head.proofs.Back.{length-head}
 use Rattle.macroblock.proofs.RecordFrom.{length-record-from}
 use native.Mathlib.Omega.{arith}
 use borrow.Author.Needs.{needs}
 use Rattle.picture.proofs.Plane.{samples-fit}
+use Rattle.plane.specs.Code.{headFor}
 use Rattle.plane.proofs.CodedFile.{length-to}
 use Rattle.plane.proofs.Coding.{FileCoded, file-begun, same-area, room-left, file-more, file-done}
 use Rattle.plane.proofs.code.code_file.Statement.{statement}
@@ -30,23 +30,26 @@ cast-write-head c = let w = c .before .before .before .before .pre .0 .0 .wide i
 cast-write-head-2 : tie.Need-cast-write-head-2 Inv-loop μ-loop
 cast-write-head-2 c = let h = c .before .before .before .before .before .pre .0 .0 .high in record { fits = omega (arith, h) }
 
+cast-write-head-3 : tie.Need-cast-write-head-3 Inv-loop μ-loop
+cast-write-head-3 c = let p = c .before .before .before .before .before .before .pre in record { fits = omega (arith, p .0 .0 .high, p .1 .2) }
+
 write-head-requires : tie.Need-write-head-requires Inv-loop μ-loop
-write-head-requires c κs = let r = c .before .before .before .before .before .before .pre .1 .0 in omega (arith, r)
+write-head-requires c κs = let r = c .before .before .before .before .before .before .before .pre .1 .0 in omega (arith, r)
 
 mul-count : tie.Need-mul-count Inv-loop μ-loop
-mul-count c = let f = small (c .before .before .before .before .before .before .before .before .before .before) in omega arith
+mul-count c = let f = small (c .before .before .before .before .before .before .before .before .before .before .before) in omega arith
 
 loop-holds : tie.Need-loop-holds Inv-loop μ-loop
 loop-holds c =
     let W = c .before .before .before in
-    let s = W .before .before .before .before .before .before .before in
+    let s = W .before .before .before .before .before .before .before .before in
     file-begun (s .args .layout) (s .args .quantizer .qp) (s .args .plane .now) (s .args .rebuilt .now) (s .args .file .now) (s .pre .1 .1) (s .pre .1 .0) (W .write-head .ensures .0) (W .write-head .ensures .1)
 
 -- what is left behind the place has room for record m
 left : (c : tie.In-loop Inv-loop μ-loop) → c .before .loop .place + lengthOf inFours ≤ length (c .before .loop .file)
 left c =
     let L = c .before in
-    let s = L .before .before .before .before .before .before .before .before .before .before .before in
+    let s = L .before .before .before .before .before .before .before .before .before .before .before .before in
     let r = room-left (s .args .layout) (s .args .quantizer .qp) (s .args .plane .now) _ _ (L .loop .inv) (c .loop-test .taken) in
     let e = same-area (s .args .layout) (s .args .quantizer .qp) (s .args .plane .now) _ _ (L .loop .inv) in
     omega (arith, r, e)
@@ -61,7 +64,7 @@ code-macroblock-requires : tie.Need-code-macroblock-requires Inv-loop μ-loop
 code-macroblock-requires c κs =
     let I = c .before .before in
     let L = I .before in
-    let s = L .before .before .before .before .before .before .before .before .before .before .before in
+    let s = L .before .before .before .before .before .before .before .before .before .before .before .before in
     let p = s .pre .0 in
     let r = left I in
     ((record { sound = p .0; macroblock = I .loop-test .taken; block = omega arith }, p .1, p .2), (search needs, L .loop .inv .kept))
@@ -71,7 +74,7 @@ add-place c =
     let C = c .before .before .before .before in
     let I = C .before .before .before in
     let L = I .before in
-    let s = L .before .before .before .before .before .before .before .before .before .before .before in
+    let s = L .before .before .before .before .before .before .before .before .before .before .before .before in
     let n = length-record-from (s .args .layout) (s .args .quantizer .qp) (s .args .plane .now) (L .loop .m) (L .loop .rebuilt) in
     let p = length-to (s .args .layout) (s .args .quantizer .qp) (s .args .plane .now) (s .args .rebuilt .now) (L .loop .m) in
     let f = small s in
@@ -83,14 +86,14 @@ loop-again c =
     let I = C .before .before .before in
     let L = I .before in
     let e = C .code-macroblock .ensures in
-    let s = L .before .before .before .before .before .before .before .before .before .before .before in
+    let s = L .before .before .before .before .before .before .before .before .before .before .before .before in
     file-more _ _ _ _ _ (s .pre .0 .0 .some) (L .loop .inv) (I .loop-test .taken) refl (e .0) (e .1 .0) (e .1 .1)
 
 returns : tie.Need-returns Inv-loop μ-loop
 returns c =
     let L = c .before in
     let W = L .before .before .before .before in
-    let s = W .before .before .before .before .before .before .before in
+    let s = W .before .before .before .before .before .before .before .before in
     let d = file-done (s .args .layout) (s .args .quantizer .qp) (s .args .plane .now) (s .args .rebuilt .now) (s .args .file .now) (W .write-head .ensures .0) (L .loop .inv) (c .loop-test .left) in
     (d .0, (d .1, d .2))
 
@@ -98,9 +101,9 @@ same-length : tie.Need-same-length Inv-loop μ-loop
 same-length c =
     let L = c .before in
     let W = L .before .before .before .before in
-    let s = W .before .before .before .before .before .before .before in
+    let s = W .before .before .before .before .before .before .before .before in
     let e = same-area (s .args .layout) (s .args .quantizer .qp) (s .args .plane .now) _ _ (L .loop .inv) in
-    let h = ap length (W .write-head .ensures .0) ∙ length-over (headOf (s .args .layout .width) (s .args .layout .height)) (s .args .file .now) (omega (arith, length-head (s .args .layout .width) (s .args .layout .height), s .pre .1 .0)) in
+    let h = ap length (W .write-head .ensures .0) ∙ length-over (headFor (s .args .layout)) (s .args .file .now) (omega (arith, length-head (s .args .layout .width) (s .args .layout .height) (s .args .layout .rows), s .pre .1 .0)) in
     omega (arith, e, h)
 
 same-length-2 : tie.Need-same-length-2 Inv-loop μ-loop
@@ -114,6 +117,7 @@ code-file-spec =
     μ-loop
     cast-write-head
     cast-write-head-2
+    cast-write-head-3
     write-head-requires
     mul-count
     loop-holds

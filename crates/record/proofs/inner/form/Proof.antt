@@ -8,8 +8,9 @@ use borrow.Author.Tests.{not-true, not-false}
 use lib.ListN.{length, take, drop, length-drop}
 use lib.Seq.{length-take-le}
 use Rattle.record.specs.Kinds.{recordLength}
-use Rattle.record.specs.Numbers.{numberAt}
-use Rattle.record.specs.Records.{numberIn, sumHolds, lengthIn, firstIn}
+use Rattle.octets.specs.Numbers.{numberAt}
+use Rattle.record.specs.Records.{numberIn, lengthIn, firstIn}
+use Rattle.octets.specs.Sum.{sumHolds}
 use Rattle.record.specs.declared.Form.the-variants.{Fine}
 use Rattle.record.proofs.Forms.{cut-mark, mark-wrong, cut-rest, number-wrong, sum-wrong, fine}
 use Rattle.record.proofs.Marks.{known-some, length-known, length-there}

@@ -7,8 +7,9 @@ use borrow.Author.Needs.{needs}
 use borrow.Rule.Slice.PartMut.{putMid}
 use lib.ListN.{length, take}
 use Rattle.lists.proofs.Parts.{growing-none, growing-part}
-use Rattle.record.specs.Records.{summed, recordWith}
-use Rattle.record.proofs.Levels.{length-levels}
+use Rattle.octets.specs.Sum.{summed}
+use Rattle.record.specs.Records.{recordWith}
+use Rattle.octets.proofs.Levels.{length-levels}
 use Rattle.record.proofs.inner.write_record.Statement.{statement}
 use Rattle.record.proofs.inner.write_record.Tie as tie
 

@@ -6,16 +6,16 @@ use reference::calls::{word, Argument};
 use std::ops::Range;
 
 /// The parts of a frame. `crates/vectors/src/frame.rt` has the same.
-const VALUES: Range<usize> = 0..24;
-const WORD: Range<usize> = 24..32;
-const LENGTHS: Range<usize> = 32..44;
-const LIST: Range<usize> = 44..112;
-const MADE: Range<usize> = 112..180;
-const SECOND: Range<usize> = 180..197;
-const FIRST: Range<usize> = 197..8637;
-const OUT: Range<usize> = 8637..17077;
-const MORE: Range<usize> = 17077..21173;
-const END: usize = 21173;
+const VALUES: Range<usize> = 0..32;
+const WORD: Range<usize> = 32..40;
+const LENGTHS: Range<usize> = 40..52;
+const LIST: Range<usize> = 52..120;
+const MADE: Range<usize> = 120..188;
+const SECOND: Range<usize> = 188..205;
+const FIRST: Range<usize> = 205..8647;
+const OUT: Range<usize> = 8647..17089;
+const MORE: Range<usize> = 17089..21185;
+const END: usize = 21185;
 
 /// The rooms of the bytes lent, and of the bytes expected, each with the number of its length.
 const BYTES_LENT: [(usize, Range<usize>); 2] = [(0, FIRST), (1, SECOND)];
@@ -51,7 +51,7 @@ fn asked(function: &Function, lent: &[Argument], before: &[u8]) -> Vec<u8> {
     for argument in inputs {
         match argument {
             Argument::Number(number) => {
-                let at = values.next().expect("there is room for three");
+                let at = values.next().expect("there is room for four");
                 frame[at..at + 8].copy_from_slice(&number.to_le_bytes());
             }
             argument => put(&mut frame, argument, &mut bytes, &mut numbers),

@@ -1,0 +1,4 @@
+pub mod Back
+pub mod Heads
+pub mod Unique
+pub mod Witness
