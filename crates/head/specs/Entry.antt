@@ -1,5 +1,6 @@
--- Reading a head: "head (short, mark, sum: 9, place 0), SIZE" (01, "What is sent back, and in which order it is tested"); "n of 0 or above the
--- height is SIZE" (02, request 02). Assumes nothing.
+-- Reading a head: "9 if the mark is cut, 11, 9 if the rest is cut, .. 13; the head the same without 12. 9 keeps its place" (02, request 03), "head
+-- (short ..: 9, place 0), SIZE" (01, "What is sent back, and in which order it is tested"); "n of 0 or above the height is SIZE" (02, request 02).
+-- Assumes nothing.
 use mathlib.Core.Path.{_≡_}
 use mathlib.Core.Bool.{Bool, cond, _&&_}
 use mathlib.Core.List.{List, [], _∷_}

@@ -1,7 +1,7 @@
 -- The content of a record of either kind, and that a decoder accepts the coder's record and rebuilds its macroblock as the coder did.
 --     kind-long                   either kind has a mark
 --     tests-whole, tests-fours, rebuilt-whole, rebuilt-fours     the tests and the step of a record, by its kind
---     content-not-form            no test of a record's content has FORM for its refusal
+--     content-not-broken          no test of a record's content says that the file is broken
 --     content-own, step-again     of the coder's record: its content is fine; its macroblock is rebuilt as the coder rebuilt it
 -- Assumes nothing.
 use mathlib.Core.Path.{_≡_, refl, sym, ap, _∙_}
@@ -13,7 +13,9 @@ use native.Mathlib.Omega.{arith}
 use Rattle.lists.specs.Bytes.{Bytes}
 use Rattle.lists.specs.Chain.{pass, stop, chain, RefusedWith}
 use Rattle.lists.proofs.Chain.{chain-exactly-if}
-use Rattle.refusal.specs.declared.Refusal.the-variants as refusal
+use Rattle.refusal.specs.Faults.{isBroken}
+use Rattle.refusal.specs.declared.Refusal.{Refusal}
+use Rattle.refusal.proofs.Faults.{false-not-true}
 use Rattle.quantizer.specs.Range.{highest}
 use Rattle.record.specs.Kinds.{inFours, inWhole, lengthOf}
 use Rattle.record.specs.Records.{isWhole}
@@ -57,33 +59,34 @@ module _ (l : Layout) (m : ℕ) (part : List ℕ) where
   unfolding rebuiltStep
   rebuilt-fours plane e = rw e
 
--- ---- FORM is none of its refusals
+-- ---- none of its refusals says that the file is broken
 
-whole-not-form : (l : Layout) (m : ℕ) (part : List ℕ) (place : ℕ) → chain (contentTests16 l m part) ≡ stop (refusal.Form place) → ⊥
-whole-not-form l m part place e = by (chain-exactly-if (contentTests16 l m part) .refuses (refusal.Form place) .0 e)
-  where
-    by : RefusedWith (contentTests16 l m part) (refusal.Form place) → ⊥
-    by (inl (a, q)) = let z : _≡_ {A = ℕ} 0 1 = cc in omega arith
-    by (inr (a, inl (b, q))) = let z : _≡_ {A = ℕ} 0 1 = cc in omega arith
-    by (inr (a, inr (b, inl (c, q)))) = let z : _≡_ {A = ℕ} 0 1 = cc in omega arith
-    by (inr (a, inr (b, inr (c, inl (d, q))))) = let z : _≡_ {A = ℕ} 0 1 = cc in omega arith
-    by (inr (a, inr (b, inr (c, inr (d, q))))) = q
+module _ (l : Layout) (m : ℕ) (part : List ℕ) (r : Refusal) (broken : isBroken r ≡ true) where
+  whole-not-broken : chain (contentTests16 l m part) ≡ stop r → ⊥
+  whole-not-broken e = by (chain-exactly-if (contentTests16 l m part) .refuses r .0 e)
+    where
+      by : RefusedWith (contentTests16 l m part) r → ⊥
+      by (inl (a, q)) = false-not-true (sym (ap isBroken q) ∙ broken)
+      by (inr (a, inl (b, q))) = false-not-true (sym (ap isBroken q) ∙ broken)
+      by (inr (a, inr (b, inl (c, q)))) = false-not-true (sym (ap isBroken q) ∙ broken)
+      by (inr (a, inr (b, inr (c, inl (d, q))))) = false-not-true (sym (ap isBroken q) ∙ broken)
+      by (inr (a, inr (b, inr (c, inr (d, q))))) = q
 
-fours-not-form : (l : Layout) (m : ℕ) (part : List ℕ) (place : ℕ) → chain (contentTests4 l m part) ≡ stop (refusal.Form place) → ⊥
-fours-not-form l m part place e = by (chain-exactly-if (contentTests4 l m part) .refuses (refusal.Form place) .0 e)
-  where
-    by : RefusedWith (contentTests4 l m part) (refusal.Form place) → ⊥
-    by (inl (a, q)) = let z : _≡_ {A = ℕ} 0 1 = cc in omega arith
-    by (inr (a, inl (b, q))) = let z : _≡_ {A = ℕ} 0 1 = cc in omega arith
-    by (inr (a, inr (b, inl (c, q)))) = let z : _≡_ {A = ℕ} 0 1 = cc in omega arith
-    by (inr (a, inr (b, inr (c, q)))) = q
+  fours-not-broken : chain (contentTests4 l m part) ≡ stop r → ⊥
+  fours-not-broken e = by (chain-exactly-if (contentTests4 l m part) .refuses r .0 e)
+    where
+      by : RefusedWith (contentTests4 l m part) r → ⊥
+      by (inl (a, q)) = false-not-true (sym (ap isBroken q) ∙ broken)
+      by (inr (a, inl (b, q))) = false-not-true (sym (ap isBroken q) ∙ broken)
+      by (inr (a, inr (b, inl (c, q)))) = false-not-true (sym (ap isBroken q) ∙ broken)
+      by (inr (a, inr (b, inr (c, q)))) = q
 
-pub content-not-form : (l : Layout) (m : ℕ) (part : List ℕ) (place : ℕ) → chain (contentTests l m part) ≡ stop (refusal.Form place) → ⊥
-content-not-form l m part place e = by (isWhole part) refl
-  where
-    by : (b : Bool) → isWhole part ≡ b → ⊥
-    by true q = whole-not-form l m part place (sym (ap chain (tests-whole l m part q)) ∙ e)
-    by false q = fours-not-form l m part place (sym (ap chain (tests-fours l m part q)) ∙ e)
+  pub content-not-broken : chain (contentTests l m part) ≡ stop r → ⊥
+  content-not-broken e = by (isWhole part) refl
+    where
+      by : (b : Bool) → isWhole part ≡ b → ⊥
+      by true q = whole-not-broken (sym (ap chain (tests-whole l m part q)) ∙ e)
+      by false q = fours-not-broken (sym (ap chain (tests-fours l m part q)) ∙ e)
 
 -- ---- the coder's record
 

@@ -1,9 +1,9 @@
+pub mod Broken
 pub mod CodedFile
 pub mod CodedOutcome
 pub mod CodedStart
 pub mod Coding
 pub mod Entry
-pub mod FormRefused
 pub mod OwnRecord
 pub mod OwnWitness
 pub mod Rest

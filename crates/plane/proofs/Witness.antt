@@ -3,7 +3,7 @@
 --     length-before-quantizer  QP 52 and no plane: LENGTH
 --     one-is-accepted          a picture of one macroblock at QP 51 is coded, not refused
 --     plane-before-file        of a file that is a head alone and of no plane: LENGTH, not FORM
---     forms-before-contents    record 0 has QP 52 and record 1 a wrong mark: FORM, with the place of record 1
+--     forms-before-contents    record 0 has QP 52 and record 1 a wrong mark: MARK, with the place of record 1
 -- Assumes nothing.
 use mathlib.Core.Path.{_≡_, refl}
 use mathlib.Core.List.{List, [], _∷_, _++_}
@@ -49,6 +49,6 @@ twoRecords = headOf 2 1 1 ++ recordOf 0 52 (replicate 16 2) (replicate 256 (pos 
 abbrev answeredOf : List ℕ → List ℕ
 answeredOf file = number (chain (decodeTests file (replicate 512 7))) ∷ place (chain (decodeTests file (replicate 512 7))) ∷ []
 
-pub forms-before-contents : answeredOf twoRecords ≡ 9 ∷ 535 ∷ []
+pub forms-before-contents : answeredOf twoRecords ≡ 11 ∷ 535 ∷ []
 unfolding headOf oldHead summed sumOf sumHolds sizeHolds rowsHold rowsAt lengthBy walkOf fold formOf kindOf lengthIn recordOf recordWith packed levelBytes tab
 forms-before-contents = refl

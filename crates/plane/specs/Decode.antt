@@ -3,9 +3,9 @@
 -- the content (01). Assumes nothing.
 use mathlib.Core.Path.{_≡_}
 use mathlib.Core.List.{List, _∷_, _++_}
-use Prim.Native.Nat.{ℕ, _<_}
-use lib.ListN.{length, drop}
-use Rattle.lists.specs.Chain.{Test, pass, stop, chain, written}
+use Prim.Native.Nat.{ℕ}
+use lib.ListN.{length}
+use Rattle.lists.specs.Chain.{Test, chain, written}
 use Rattle.lists.specs.Fold.{fold}
 use Rattle.lists.specs.Parts.{parts}
 use Rattle.lists.specs.Tab.{tab}
@@ -13,12 +13,9 @@ use Rattle.refusal.specs.Number.{said, Says}
 use Rattle.refusal.specs.Tests.{lengthTest}
 use Rattle.refusal.specs.declared.Answer.{Answer}
 use Rattle.refusal.specs.declared.Refusal.{Refusal}
-use Rattle.refusal.specs.declared.Refusal.the-variants as refusal
 use Rattle.head.specs.Entry.{headTests, longAt, widthAt, heightAt, rowsAt}
-use Rattle.refusal.specs.Faults.{refusalOf}
-use Rattle.record.specs.Faults.{formTests, walkOf, walkTests}
-use Rattle.record.specs.Records.{lengthFrom, recordAt, recordPlace}
-use Rattle.refusal.specs.declared.Fault.{Fault}
+use Rattle.record.specs.Faults.{walkOf, walkTests}
+use Rattle.record.specs.Records.{recordAt, recordPlace}
 use Rattle.picture.specs.declared.Layout.{Layout}
 use Rattle.picture.specs.Order.{countOf}
 use Rattle.picture.specs.Plane.{planeLength}
@@ -79,18 +76,3 @@ pub record DecodesBody (l : Layout) (place : ℕ) (file before : List ℕ) (r : 
 pub record Decodes (file before : List ℕ) (r : Answer) (after : List ℕ) : Type 0 where
   pub says : Says (said r) (chain (decodeTests file before))
   pub wrote : after ≡ written (chain (decodeTests file before)) (decodedPlane file) before
-
--- FORM is answered with a place because of the head, the first record whose own tests fail, or bytes after the last one: "A cut or surplus
--- has the file length as place" (02, Req 01), mark, number and sum "the record's first byte" (01)
-pub data FormRefused (file before : List ℕ) (place : ℕ) : Type 0 where
-  at-head : chain (headTests file) ≡ stop (refusal.Form place) → FormRefused file before place
-  at-record :
-      chain (headTests file) ≡ pass → length before ≡ planeLength 16 (layoutIn file) → (m : ℕ) → m < countOf (layoutIn file)
-      → ((k : ℕ) → k < m → chain (formTests k (drop (recordPlace k file (longAt file)) file)) ≡ pass)
-      → (fault : Fault) → chain (formTests m (drop (recordPlace m file (longAt file)) file)) ≡ stop fault
-      → refusal.Form place ≡ refusalOf fault (recordPlace m file (longAt file)) (lengthFrom (recordPlace m file (longAt file)) file) (length file)
-      → FormRefused file before place
-  behind-last :
-      chain (headTests file) ≡ pass → length before ≡ planeLength 16 (layoutIn file)
-      → ((k : ℕ) → k < countOf (layoutIn file) → chain (formTests k (drop (recordPlace k file (longAt file)) file)) ≡ pass)
-      → recordPlace (countOf (layoutIn file)) file (longAt file) < length file → place ≡ length file → FormRefused file before place

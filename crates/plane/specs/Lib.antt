@@ -1,3 +1,4 @@
+pub mod Broken
 pub mod Code
 pub mod Decode
 pub mod Slices

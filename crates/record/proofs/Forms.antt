@@ -1,16 +1,18 @@
 -- What the tests of a record's form come to.
 --     cut-mark, mark-wrong, cut-rest, number-wrong, sum-wrong, fine      the six verdicts
 --     FineForm, passed-sound, fine-sound                                    what is known of a record whose form is fine
+--     late-room                                                          number and sum are tested only in a record that is all there
 --     formed-pass                                                        a form by its verdict
 -- Assumes nothing.
 use mathlib.Core.Path.{_≡_, refl, sym, ap, _∙_}
 use mathlib.Core.Bool.{true, false}
 use mathlib.Core.List.{List}
+use mathlib.Core.Logic.{inl, inr}
 use Prim.Native.Nat.{ℕ, _<_, _≤_}
 use native.Mathlib.Omega.{arith}
 use borrow.Author.Tests.{eq-eqb, ne-eqb, le-leb, lt-leb, eqb-true, leb-true}
 use lib.ListN.{length}
-use Rattle.lists.specs.Chain.{Verdict, pass, stop, chain}
+use Rattle.lists.specs.Chain.{Verdict, pass, stop, chain, RefusedWith}
 use Rattle.lists.proofs.Chain.{chain-exactly-if}
 use Rattle.record.specs.Faults.{formTests, formed, formOf}
 use Rattle.record.specs.Kinds.{lengthOf, known, kindOf, isKnown, lengthKnown, recordLength}
@@ -18,7 +20,9 @@ use Rattle.octets.specs.Numbers.{numberAt}
 use Rattle.record.specs.Records.{numberIn, lengthIn, firstIn}
 use Rattle.octets.specs.Sum.{sumHolds}
 use Rattle.refusal.specs.declared.Fault.the-variants.{CutMark, Mark, CutRest, Number, Sum}
+use Rattle.refusal.specs.Faults.{late}
 use Rattle.refusal.specs.declared.Fault.{Fault}
+use Rattle.refusal.proofs.Faults.{false-not-true}
 use Rattle.record.specs.declared.Form.the-variants.{Fine, Faulty}
 use Rattle.record.specs.declared.Kind.{Kind}
 use Rattle.record.proofs.Marks.{unknown-none, known-some, length-known, kind-known, length-there}
@@ -73,6 +77,17 @@ module _ (number : ℕ) (bytes : List ℕ) where
           unfolding formOf
           fine e =
               simp (le-leb 2 (length bytes) two, marked, le-leb (lengthIn bytes) (length bytes) room, eq-eqb (numberIn bytes) number own, e)
+
+  -- number and sum are tested only in a record that is all there
+  pub late-room : (fault : Fault) → late fault ≡ true → chain (formTests number bytes) ≡ stop fault → (6 ≤ lengthIn bytes) × (lengthIn bytes ≤ length bytes)
+  late-room fault h e = by (chain-exactly-if (formTests number bytes) .refuses fault .0 e)
+    where
+      by : RefusedWith (formTests number bytes) fault → (6 ≤ lengthIn bytes) × (lengthIn bytes ≤ length bytes)
+      by (inl (a, q)) = absurd (false-not-true (sym (ap late q) ∙ h))
+      by (inr (a, inl (b, q))) = absurd (false-not-true (sym (ap late q) ∙ h))
+      by (inr (a, inr (b, inl (c, q)))) = absurd (false-not-true (sym (ap late q) ∙ h))
+      by (inr (a, inr (b, inr (c, rest)))) =
+          (omega (arith, length-there bytes (leb-true 2 (length bytes) a), length-known (numberAt 0 bytes) b), leb-true (lengthIn bytes) (length bytes) c)
 
   -- ---- a form by its verdict
 

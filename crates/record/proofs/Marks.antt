@@ -17,6 +17,7 @@ use native.Mathlib.Omega.{arith}
 use borrow.Author.Tests.{ne-eqb, le-leb, lt-leb}
 use lib.Dec.{eqb}
 use lib.ListN.{length}
+use Rattle.refusal.proofs.Faults.{false-not-true}
 use Rattle.record.specs.Kinds.{lengthOf, inFours, inWhole, kinds, Known, unknown, known, kindIn, kindOf, isKnown, lengthKnown, recordLength}
 use Rattle.octets.specs.Numbers.{numberAt}
 use Rattle.record.specs.Records.{lengthIn}
@@ -39,9 +40,6 @@ All P (k ∷ ks) = P k × All P ks
 
 unknown-not-known : {k : Kind} → unknown ≡ known k → ⊥
 unknown-not-known e = let z : _≡_ {A = ℕ} 0 1 = cc in omega arith
-
-pub false-not-true : false ≡ true → ⊥
-false-not-true e = let z : _≡_ {A = ℕ} 0 1 = cc in omega arith
 
 known-inner : {j k : Kind} → known j ≡ known k → j ≡ k
 known-inner e = cc

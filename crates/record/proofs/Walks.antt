@@ -7,6 +7,7 @@
 --     walk-stands                it stands at the place of the next record, or a fault has stopped it
 --     walk-whole-exactly-if      it comes through exactly if every record's form is fine
 --     walk-breaks-exactly-if     it stops at a record exactly if this one is faulty and none before it is
+--     late-there                 a walk that number or sum has stopped stands at a record that is all there
 --     form-passes-exactly-if, form-refuses-exactly-if     what is sent back: the first fault, or that bytes are left
 --     place-none, place-more, place-next     where the first record begins, and the next
 --     end-known, record-sound, Lent, lent     what code needs to lend record m of a walk that came through
@@ -28,7 +29,7 @@ use Rattle.lists.proofs.Chain.{pass-not-stop, chain-exactly-if}
 use Rattle.lists.proofs.Fold.{fold-more}
 use Rattle.refusal.specs.declared.Refusal.{Refusal}
 use Rattle.record.specs.Faults.{formTests, formed, formOf, stepped, onward, walkOf, surplus, leftTests, walkSaid}
-use Rattle.refusal.specs.Faults.{refusalOf}
+use Rattle.refusal.specs.Faults.{refusalOf, AllThere}
 use Rattle.record.specs.Kinds.{lengthOf, inFours, inWhole, known, kindOf}
 use Rattle.octets.specs.Numbers.{numberAt}
 use Rattle.record.specs.Records.{isWhole, lengthFrom, recordAt, recordPlace}
@@ -37,7 +38,7 @@ use Rattle.record.specs.declared.Form.the-variants.{Fine}
 use Rattle.record.specs.declared.Kind.{Kind}
 use Rattle.record.specs.declared.Walk.{Walk}
 use Rattle.record.specs.declared.Walk.the-variants.{Whole, Broken}
-use Rattle.record.proofs.Forms.{FineForm, passed-sound, fine-sound}
+use Rattle.record.proofs.Forms.{FineForm, passed-sound, fine-sound, late-room}
 use Rattle.record.proofs.Marks.{front-known, kind-whole, kind-fours}
 
 -- a number from a place on
@@ -213,6 +214,18 @@ module _ (file : List ℕ) where
 
     pub walk-breaks-exactly-if : (n : ℕ) (fault : Fault) (place : ℕ) → (walkOf n file start ≡ Broken fault place) ↔ FirstFault n fault place
     walk-breaks-exactly-if n fault place = (breaks-only n fault place, breaks-if n fault place)
+
+    -- a walk that number or sum has stopped stands at a record that is all there: what a place inside it asks
+    pub late-there : (n : ℕ) (fault : Fault) (place : ℕ) → walkOf n file start ≡ Broken fault place → AllThere fault place (lengthFrom place file) (length file)
+    late-there n fault place e =
+        let f = breaks-only n fault place e in
+        let at : ℕ = recordPlace (f .0) file start in
+        let d = length-drop at file in
+        let there : AllThere fault at (lengthFrom at file) (length file) = record {
+          some = λ h. omega (arith, late-room (f .0) (drop at file) fault h (f .4) .0);
+          inside = λ h. let r = late-room (f .0) (drop at file) fault h (f .4) in omega (arith, r .0, r .1, d);
+        } in
+        subst (λ (p : ℕ). AllThere fault p (lengthFrom p file) (length file)) (sym (f .2)) there
 
     -- ---- what the form of a file's records sends back
 

@@ -1,6 +1,6 @@
 -- The form of a file's records: "Per record now cut mark, mark, cut rest, number, sum; bytes after the last record come at the end. A cut or
--- surplus has the file length as place" (02, request 01); mark, number and sum have "the record's first byte" (01, "What is sent back, and in
--- which order it is tested"). Assumes nothing.
+-- surplus has the file length as place" (02, request 01); mark, number and sum have "the place of the offending field" (02, request 03).
+-- Assumes nothing.
 use mathlib.Core.Bool.{false}
 use mathlib.Core.List.{List, [], _∷_}
 use Prim.Native.Nat.{ℕ, _+_}

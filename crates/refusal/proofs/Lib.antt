@@ -1,3 +1,4 @@
+pub mod Faults
 pub mod Same
 pub mod Seven
 pub mod Unique

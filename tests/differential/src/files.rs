@@ -456,7 +456,7 @@ fn dc_ends() -> Vec<Vec<u8>> {
 
 /// The records that begin with a mark that is known and are not cut, up to the first other one: their first bytes and kinds. None where
 /// the head's mark is not known.
-fn records(file: &[u8]) -> Vec<(usize, Kind)> {
+pub fn records(file: &[u8]) -> Vec<(usize, Kind)> {
     let mut records = vec![];
     let mut at = Head::of(file).map_or(file.len(), Head::bytes);
     let next = |at: usize| {

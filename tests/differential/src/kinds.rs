@@ -1,6 +1,6 @@
 //! Kinds of cases that must come beside the outcomes: what the coder chose and left, and what a head or a file was read as or refused for.
 
-use crate::files::{listed_head, listed_wholes, other_values};
+use crate::files::{listed_head, listed_wholes, other_values, records};
 use crate::request::Argument::{self, Bytes, Number};
 use reference::extremes::dc_edges;
 use reference::record::{self, Broken, Fault, Head, Kind, Layout, Luma, Macroblock, Sixteen};
@@ -156,6 +156,53 @@ fn of_choice(sads: &Sads) -> Vec<String> {
     kinds
 }
 
+// ---- what is broken in a file (request 03)
+
+/// The number and the place of a word.
+type Told = (u64, usize);
+
+const FORM: u64 = 9;
+const MARK: u64 = 11;
+const NUMBER: u64 = 12;
+const SUM: u64 = 13;
+
+fn told(what: String, (number, place): Told) -> String {
+    format!("{what}: {number} at {place}")
+}
+
+/// What a whole file is refused by where one byte is another: a mark and a number by themselves, and whatever else by the sum.
+fn of_another_byte(whole: &[u8], place: usize) -> Told {
+    let head = Head::of(whole).expect("it is whole").bytes();
+    if place < head {
+        return if place < 2 {
+            (MARK, 0)
+        } else {
+            (SUM, head - 2)
+        };
+    }
+    let holds = |(first, kind): &(usize, Kind)| place < first + kind.bytes();
+    let record = records(whole).into_iter().find(holds);
+    let (first, kind) = record.expect("it is in the file");
+    match place - first {
+        0 | 1 => (MARK, first),
+        2 | 3 => (NUMBER, first + 2),
+        _ => (SUM, first + kind.bytes() - 2),
+    }
+}
+
+/// The same where it is cut: "9 keeps its place", which is the length, and the head's 0.
+fn of_a_cut(whole: &[u8], length: usize) -> Told {
+    let head = Head::of(whole).expect("it is whole").bytes();
+    (FORM, if length < head { 0 } else { length })
+}
+
+/// The only place at which a file of the same length has another byte than a whole one.
+fn other_byte(file: &[u8], whole: &[u8]) -> Option<usize> {
+    let mut pairs = file.iter().zip(whole);
+    let place = pairs.position(|(one, other)| one != other)?;
+    (file.get(place + 1..) == whole.get(place + 1..)).then_some(place)
+}
+
 // ---- heads
 
 const NEW_OF_ONE_SLICE: &str = "the new head of one slice";
@@ -164,69 +211,104 @@ fn head_cut(head: Head, length: usize) -> String {
     format!("the {head:?} head cut to {length} bytes")
 }
 
-fn head_changed(place: usize, value: u8) -> String {
-    format!("the New head with {value} for its byte {place}")
+fn head_changed(head: Head, place: usize, value: u8) -> String {
+    format!("the {head:?} head with {value} for its byte {place}")
+}
+
+/// A head's fault: where the mark says no kind, by what is there of it.
+fn of_head_fault(fault: Fault, at: &str) -> String {
+    format!("{fault:?} {at}, in the head")
+}
+
+/// Which byte of a mark is the first that is wrong or missing; `first` is what all marks that are known here begin with.
+fn at_mark(part: &[u8], first: u8) -> String {
+    format!("at {}", usize::from(part.starts_with(&[first])))
 }
 
 fn required_of_heads() -> Vec<String> {
-    let cut = Head::ALL
-        .into_iter()
-        .flat_map(|head| (2..head.bytes()).map(move |length| head_cut(head, length)));
-    let good = listed_head(Head::New);
-    let others = |place: usize| {
-        let others = other_values(good[place]).into_iter();
-        let others = others.filter(move |value| *value != listed_head(Head::New)[place]);
-        others.map(move |value| head_changed(place, value))
-    };
     let named = [NEW_OF_ONE_SLICE].into_iter().chain(BAD_ROWS);
-    cut.chain((0..good.len()).flat_map(others))
-        .chain(named.map(str::to_owned))
-        .collect()
+    let faults = [
+        (Fault::CutMark, "at 0", (FORM, 0)),
+        (Fault::CutMark, "at 1", (FORM, 0)),
+        (Fault::Mark, "at 0", (MARK, 0)),
+        (Fault::Mark, "at 1", (MARK, 0)),
+        (Fault::CutRest, "of Old", (FORM, 0)),
+        (Fault::CutRest, "of New", (FORM, 0)),
+        (Fault::Sum, "of Old", (SUM, 6)),
+        (Fault::Sum, "of New", (SUM, 8)),
+    ];
+    let faults = faults.map(|(fault, at, by)| told(of_head_fault(fault, at), by));
+    let of_kind = |head: Head| {
+        let good = listed_head(head);
+        let cut = (2..good.len()).map(|length| told(head_cut(head, length), (FORM, 0)));
+        let others = |place: usize| {
+            let others = other_values(good[place]).into_iter();
+            let others = others.filter(|value| *value != good[place]);
+            let by = of_another_byte(&good, place);
+            let name = |value| told(head_changed(head, place, value), by);
+            others.map(name).collect::<Vec<_>>()
+        };
+        cut.chain((0..good.len()).flat_map(others))
+            .collect::<Vec<_>>()
+    };
+    let each = Head::ALL.into_iter().flat_map(of_kind);
+    each.chain(faults).chain(named.map(str::to_owned)).collect()
 }
 
 fn of_reading(word: u64, arguments: &[Argument]) -> Vec<String> {
     let [Bytes(file)] = arguments else {
         unreachable!()
     };
-    of_head(word % 256, file)
+    of_head(parts(word), file)
 }
 
-/// By the outcome, and the file that begins with the head.
-fn of_head(number: u64, file: &[u8]) -> Vec<String> {
-    let Some(head) = Head::of(file) else {
-        return of_changed_head(file);
-    };
-    if file.len() < head.bytes() {
-        return vec![head_cut(head, file.len())];
-    }
-    let mut kinds = of_changed_head(file);
-    if head == Head::New {
-        let field = |at: usize| usize::from(u16::from_be_bytes([file[at], file[at + 1]]));
-        let layout = Layout {
-            width: field(2),
-            height: field(4),
-            rows: field(6),
-        };
-        match number {
-            0 if layout.rows == layout.height => kinds.push(NEW_OF_ONE_SLICE.to_owned()),
-            8 => kinds.extend(of_bad_rows(layout)),
-            _ => {}
+fn parts(word: u64) -> Told {
+    (word % 256, (word / 256) as usize)
+}
+
+/// By the word, and the file that begins with the head.
+fn of_head(by: Told, file: &[u8]) -> Vec<String> {
+    let mut kinds = of_changed_head(by, file);
+    match record::sound_head(file) {
+        Err(broken) => {
+            let head = Head::of(file);
+            let at = match head {
+                Some(head) => format!("of {head:?}"),
+                None => at_mark(file, b'H'),
+            };
+            kinds.push(told(of_head_fault(broken.fault, &at), by));
+            if let (Some(head), Fault::CutRest) = (head, broken.fault) {
+                kinds.push(told(head_cut(head, file.len()), by));
+            }
         }
+        Ok((Head::New, head)) => kinds.extend(of_new_head(by, head)),
+        Ok((Head::Old, _)) => {}
     }
     kinds
 }
 
-/// Whether a file begins with the listed new head but for one byte.
-fn of_changed_head(file: &[u8]) -> Vec<String> {
-    let good = listed_head(Head::New);
-    let Some(head) = file.get(..good.len()) else {
-        return vec![];
+fn of_new_head((number, _): Told, head: &[u8]) -> Vec<String> {
+    let field = |at: usize| usize::from(u16::from_be_bytes([head[at], head[at + 1]]));
+    let layout = Layout {
+        width: field(2),
+        height: field(4),
+        rows: field(6),
     };
-    let other: Vec<usize> = (0..good.len()).filter(|&at| head[at] != good[at]).collect();
-    match other.as_slice() {
-        &[place] => vec![head_changed(place, head[place])],
+    match number {
+        0 if layout.rows == layout.height => vec![NEW_OF_ONE_SLICE.to_owned()],
+        8 => of_bad_rows(layout),
         _ => vec![],
     }
+}
+
+/// Whether a file begins with a listed head but for one byte.
+fn of_changed_head(by: Told, file: &[u8]) -> Vec<String> {
+    let of = |kind: Head| {
+        let head = file.get(..kind.bytes())?;
+        let place = other_byte(head, &listed_head(kind))?;
+        Some(told(head_changed(kind, place, head[place]), by))
+    };
+    Head::ALL.into_iter().filter_map(of).collect()
 }
 
 // ---- decoding
@@ -251,9 +333,9 @@ fn changed(head: Head, place: usize) -> String {
     format!("the listed file with the {head:?} head and another byte {place}")
 }
 
-/// `at` says more about some faults.
-fn fault(fault: Fault, at: &str) -> String {
-    format!("{fault:?} {at}")
+/// A fault behind a head, and the number that it is refused by; `at` says more about it.
+fn fault(head: Head, fault: Fault, at: &str, number: u64) -> String {
+    format!("{fault:?} {at}, behind the {head:?} head: {number}")
 }
 
 fn quantizer(kind: Kind) -> String {
@@ -279,25 +361,14 @@ fn dc(qp: u8, value: i64) -> String {
 fn required_of_decoding() -> Vec<String> {
     let listed = Head::ALL.into_iter().zip(listed_wholes());
     let listed = listed.flat_map(|(head, whole)| {
-        (0..whole.len()).flat_map(move |place| [cut(head, place), changed(head, place)])
+        (0..whole.len()).flat_map(move |place| {
+            [
+                told(cut(head, place), of_a_cut(whole, place)),
+                told(changed(head, place), of_another_byte(whole, place)),
+            ]
+        })
     });
-    let of_kinds = Kind::ALL.into_iter().flat_map(|kind| {
-        let at = format!("of {kind:?}");
-        let alone = format!("of {kind:?} {SUM_RIGHT}");
-        [
-            fault(Fault::CutRest, &at),
-            fault(Fault::Number, &alone),
-            fault(Fault::Sum, &at),
-            quantizer(kind),
-        ]
-    });
-    let faults = [
-        fault(Fault::CutMark, "at 0"),
-        fault(Fault::CutMark, "at 1"),
-        fault(Fault::Mark, "at 0"),
-        fault(Fault::Mark, "at 1"),
-        fault(Fault::Surplus, BEHIND),
-    ];
+    let faults = Head::ALL.into_iter().flat_map(required_faults);
     let lacking = [
         lacks(0, FIRST_ROW),
         lacks(1, LEFT_EDGE),
@@ -317,13 +388,35 @@ fn required_of_decoding() -> Vec<String> {
         .chain(every_slicing(4))
         .chain(across)
         .chain((0..4).map(decoded))
-        .chain(of_kinds)
+        .chain(Kind::ALL.map(quantizer))
         .chain(faults)
         .chain(lacking)
         .chain((0..16).map(ac))
         .chain(edges)
         .chain(named)
         .collect()
+}
+
+/// Of the records behind a head: "9 if the mark is cut, 11, 9 if the rest is cut, 12, 13", and 9 for what is surplus.
+fn required_faults(head: Head) -> Vec<String> {
+    let of_kinds = Kind::ALL.into_iter().flat_map(|kind| {
+        let at = format!("of {kind:?}");
+        let alone = format!("of {kind:?} {SUM_RIGHT}");
+        [
+            fault(head, Fault::CutRest, &at, FORM),
+            fault(head, Fault::Number, &at, NUMBER),
+            fault(head, Fault::Number, &alone, NUMBER),
+            fault(head, Fault::Sum, &at, SUM),
+        ]
+    });
+    let faults = [
+        fault(head, Fault::CutMark, "at 0", FORM),
+        fault(head, Fault::CutMark, "at 1", FORM),
+        fault(head, Fault::Mark, "at 0", MARK),
+        fault(head, Fault::Mark, "at 1", MARK),
+        fault(head, Fault::Surplus, BEHIND, FORM),
+    ];
+    of_kinds.chain(faults).collect()
 }
 
 fn edges(qp: u8) -> [i64; 4] {
@@ -335,15 +428,15 @@ fn of_decoding(word: u64, arguments: &[Argument]) -> Vec<String> {
     let [Bytes(file), _] = arguments else {
         unreachable!()
     };
-    let (number, place) = (word % 256, (word / 256) as usize);
-    let mut kinds = of_the_listed(file);
-    kinds.extend(of_head(number, file));
+    let (number, place) = parts(word);
+    let mut kinds = of_the_listed((number, place), file);
+    kinds.extend(of_head((number, place), file));
     let Ok(layout) = record::read_head(file) else {
         return kinds;
     };
     match (record::read_records(file, layout.macroblocks()), number) {
         (_, 1) => {}
-        (Err(broken), _) => kinds.push(of_broken(file, broken)),
+        (Err(broken), _) => kinds.push(of_broken(number, file, broken)),
         (Ok(macroblocks), 0) => {
             kinds.extend(of_slicing(layout));
             kinds.extend(of_decoded(&macroblocks));
@@ -357,34 +450,30 @@ fn of_decoding(word: u64, arguments: &[Argument]) -> Vec<String> {
 }
 
 /// Whether a file is a beginning of a listed one, or that with one other byte.
-fn of_the_listed(file: &[u8]) -> Vec<String> {
+fn of_the_listed(by: Told, file: &[u8]) -> Vec<String> {
     let listed = Head::ALL.into_iter().zip(listed_wholes());
     let of = |(head, whole): (Head, &Vec<u8>)| {
         if file.len() < whole.len() && whole.starts_with(file) {
-            return Some(cut(head, file.len()));
+            return Some(told(cut(head, file.len()), by));
         }
-        let place = file
-            .iter()
-            .zip(whole)
-            .position(|(one, other)| one != other)?;
-        (file.get(place + 1..) == whole.get(place + 1..)).then(|| changed(head, place))
+        Some(told(changed(head, other_byte(file, whole)?), by))
     };
     listed.filter_map(of).collect()
 }
 
-fn of_broken(file: &[u8], broken: Broken) -> String {
-    let record = &file[broken.record..];
+fn of_broken(number: u64, file: &[u8], broken: Broken) -> String {
+    let head = Head::of(file).expect("the head is sound");
+    let record = &file[broken.first..];
     let known = |kind: &Kind| record.starts_with(&kind.mark());
     let at = match (broken.fault, Kind::ALL.into_iter().find(known)) {
         (Fault::Surplus, _) => BEHIND.to_owned(),
-        (Fault::CutMark, _) => format!("at {}", record.len()),
         (Fault::Number, Some(kind)) if record::sum_is_right(&record[..kind.bytes()]) => {
             format!("of {kind:?} {SUM_RIGHT}")
         }
         (_, Some(kind)) => format!("of {kind:?}"),
-        (_, None) => format!("at {}", usize::from(record.starts_with(b"M"))),
+        (_, None) => at_mark(record, b'M'),
     };
-    fault(broken.fault, &at)
+    fault(head, broken.fault, &at, number)
 }
 
 fn of_decoded(macroblocks: &[Macroblock]) -> Vec<String> {

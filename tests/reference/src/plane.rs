@@ -78,8 +78,9 @@ pub fn code_plane_by(
     Ok(written.len())
 }
 
-/// Decodes a record file. Refusals: FORM of the head, SIZE, LENGTH of the
-/// plane, FORM of the records, and then by record QUANTIZER, MODE, RANGE.
+/// Decodes a record file. Refusals: those of the head, LENGTH of the plane; by
+/// record FORM if its mark is cut, MARK, FORM if its rest is cut, NUMBER, SUM; FORM
+/// of bytes behind the last; and then by record QUANTIZER, MODE, RANGE.
 pub fn decode_plane(file: &[u8], plane: &mut [u8]) -> Result<(), Refusal> {
     let layout = record::read_head(file)?;
     if plane.len() != layout.samples() {

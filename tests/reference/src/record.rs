@@ -173,15 +173,10 @@ fn head_of(head: Head, layout: Layout) -> Result<Vec<u8>, Refusal> {
     Ok(head.written(width, height, rows))
 }
 
-/// What the head that a file begins with says.
-/// Refusals: FORM (mark cut, mark, rest cut, sum), SIZE.
+/// What the head that a file begins with says. Refusals: FORM if its mark is cut,
+/// MARK, FORM if its rest is cut, SUM; then SIZE.
 pub fn read_head(file: &[u8]) -> Result<Layout, Refusal> {
-    let form = Refusal::form(0);
-    let kind = Head::of(file).ok_or(form)?;
-    let head = file.get(..kind.bytes()).ok_or(form)?;
-    if !sum_is_right(head) {
-        return Err(form);
-    }
+    let (kind, head) = sound_head(file).map_err(|broken| broken.refusal(0))?;
     let field = |at: usize| usize::from(number(head, at));
     let (width, height) = (field(2), field(4));
     let rows = match kind {
@@ -217,7 +212,7 @@ pub fn file_with(
     Ok(file)
 }
 
-/// What can break the layout behind a head.
+/// What can break the layout of a file.
 #[derive(Clone, Copy, Debug, PartialEq, Eq)]
 pub enum Fault {
     CutMark,
@@ -228,44 +223,73 @@ pub enum Fault {
     Surplus,
 }
 
-/// The first fault, and the first byte of its record: what is surplus begins
-/// where one more record would.
+/// The first fault, and the head or the record that it is in.
 #[derive(Clone, Copy, Debug, PartialEq, Eq)]
 pub struct Broken {
     pub fault: Fault,
-    pub record: usize,
+    /// Its first byte: what is surplus begins where one more record would.
+    pub first: usize,
+    /// Its bytes from mark to sum; 0 where no mark that is known says them.
+    pub bytes: usize,
 }
 
 impl Broken {
-    /// FORM: "A cut or surplus has the file length as place", and the others the
-    /// record's first byte.
-    pub fn refusal(self, length: usize) -> Refusal {
+    /// "Keep 9 for a file too short, too long or with a cut head; 11 for a wrong
+    /// mark, 12 for a wrong number, 13 for a wrong sum, each with the place of the
+    /// offending field and not of the record." 9 has a place that is given: the
+    /// head's is 0, and "a cut or surplus has the file length as place".
+    pub fn refusal(self, form: usize) -> Refusal {
         match self.fault {
-            Fault::CutMark | Fault::CutRest | Fault::Surplus => Refusal::form(length),
-            Fault::Mark | Fault::Number | Fault::Sum => Refusal::form(self.record),
+            Fault::CutMark | Fault::CutRest | Fault::Surplus => Refusal::form(form),
+            Fault::Mark => Refusal::wrong_mark(self.first),
+            Fault::Number => Refusal::wrong_number(self.first + 2),
+            Fault::Sum => Refusal::wrong_sum(self.first + self.bytes - 2),
         }
     }
 }
 
-/// So many macroblocks, behind the head of a file, which is sound: "Per record
-/// now cut mark, mark, cut rest, number, sum; bytes after the last record come at
-/// the end".
+/// The head or the record that begins at a byte of a file, by the marks and lengths
+/// of its kinds: "9 if the mark is cut, 11, 9 if the rest is cut, 12, 13; the head
+/// the same without 12", which expects no number.
+fn sound<K: Copy>(
+    file: &[u8],
+    first: usize,
+    kinds: [(K, [u8; 2], usize); 2],
+    expected: Option<usize>,
+) -> Result<(K, &[u8]), Broken> {
+    let broken = |fault, bytes| Broken {
+        fault,
+        first,
+        bytes,
+    };
+    let rest = &file[first..];
+    let mark = rest.first_chunk().ok_or(broken(Fault::CutMark, 0))?;
+    let known = kinds.into_iter().find(|(_, known, _)| known == mark);
+    let (kind, _, bytes) = known.ok_or(broken(Fault::Mark, 0))?;
+    let whole = rest.get(..bytes).ok_or(broken(Fault::CutRest, bytes))?;
+    if expected.is_some_and(|expected| usize::from(number(whole, 2)) != expected) {
+        return Err(broken(Fault::Number, bytes));
+    }
+    if !sum_is_right(whole) {
+        return Err(broken(Fault::Sum, bytes));
+    }
+    Ok((kind, whole))
+}
+
+/// The head that a file begins with, and its kind.
+pub fn sound_head(file: &[u8]) -> Result<(Head, &[u8]), Broken> {
+    let kinds = Head::ALL.map(|head| (head, head.mark(), head.bytes()));
+    sound(file, 0, kinds, None)
+}
+
+/// So many macroblocks, behind the head of a file, which is sound; bytes behind the
+/// last record come at the end.
 pub fn read_records(file: &[u8], count: usize) -> Result<Vec<Macroblock>, Broken> {
+    let kinds = Kind::ALL.map(|kind| (kind, kind.mark(), kind.bytes()));
     let mut macroblocks = Vec::new();
     let mut at = Head::of(file).expect("the head is sound").bytes();
     for expected in 0..count {
-        let broken = |fault| Broken { fault, record: at };
-        let rest = &file[at..];
-        let mark = rest.first_chunk().ok_or(broken(Fault::CutMark))?;
-        let kind = Kind::ALL.into_iter().find(|kind| kind.mark() == *mark);
-        let kind = kind.ok_or(broken(Fault::Mark))?;
-        let record = rest.get(..kind.bytes()).ok_or(broken(Fault::CutRest))?;
-        if usize::from(number(record, 2)) != expected {
-            return Err(broken(Fault::Number));
-        }
-        if !sum_is_right(record) {
-            return Err(broken(Fault::Sum));
-        }
+        let (kind, record) = sound(file, at, kinds, Some(expected))?;
         macroblocks.push(Macroblock::read(kind, record));
         at += record.len();
     }
@@ -273,7 +297,8 @@ pub fn read_records(file: &[u8], count: usize) -> Result<Vec<Macroblock>, Broken
         true => Ok(macroblocks),
         false => Err(Broken {
             fault: Fault::Surplus,
-            record: at,
+            first: at,
+            bytes: 0,
         }),
     }
 }

@@ -23,6 +23,18 @@ const fn form(place: usize) -> Refusal {
     refusal(9, place)
 }
 
+const fn wrong_mark(place: usize) -> Refusal {
+    refusal(11, place)
+}
+
+const fn wrong_number(place: usize) -> Refusal {
+    refusal(12, place)
+}
+
+const fn wrong_sum(place: usize) -> Refusal {
+    refusal(13, place)
+}
+
 /// What outputs hold before a call.
 const UNTOUCHED: u8 = 0x5A;
 
@@ -330,25 +342,63 @@ fn records_are_read_as_they_are_written() {
     }
 }
 
-#[test]
-fn a_changed_byte_is_the_head_or_the_record_it_stands_in() {
-    for file in two_by_twos() {
-        for number in 0..=4 {
-            let (first, end, expected) = match number {
-                4 => (0, head_bytes(&file), form(0)),
-                _ => {
-                    let first = record_place(&file, number);
-                    (first, record_place(&file, number + 1), form(first))
-                }
+/// What another value of a byte of a whole file is refused by: "11 for a wrong mark,
+/// 12 for a wrong number, 13 for a wrong sum", which any other byte makes wrong. No
+/// other value of a single byte leaves a sum of bytes as it was.
+fn of_a_changed_byte(file: &[u8], place: usize) -> Refusal {
+    let head = head_bytes(file);
+    if place < head {
+        return if place < 2 {
+            wrong_mark(0)
+        } else {
+            wrong_sum(head - 2)
+        };
+    }
+    let total = read_head(file).expect("it is whole").macroblocks();
+    let macroblocks = read_records(file, total).expect("it is whole");
+    let mut first = head;
+    for macroblock in macroblocks {
+        let end = first + macroblock.kind().bytes();
+        if place < end {
+            return match place - first {
+                0 | 1 => wrong_mark(first),
+                2 | 3 => wrong_number(first + 2),
+                _ => wrong_sum(end - 2),
             };
-            // No other value of a single byte leaves a sum of bytes as it was.
-            for place in first..end {
-                for change in [1, 0x10, 0x80, 0xFF] {
-                    let mut changed = file.clone();
-                    changed[place] ^= change;
-                    refuses(expected, &changed, 1024);
-                }
+        }
+        first = end;
+    }
+    unreachable!("the byte is none of the file")
+}
+
+#[test]
+fn a_changed_byte_is_told_by_its_field() {
+    for file in two_by_twos() {
+        for place in 0..file.len() {
+            // None of these makes a mark another one that is known.
+            for change in [1, 0x10, 0x80, 0xFF] {
+                let mut changed = file.clone();
+                changed[place] ^= change;
+                refuses(of_a_changed_byte(&file, place), &changed, 1024);
             }
+        }
+    }
+}
+
+/// Every file in slices, and every single byte of it: changed, and with all from
+/// there on cut off.
+#[test]
+fn every_byte_of_the_files_in_slices_is_told() {
+    for name in names(SLICES, ".rec") {
+        let file = data(&format!("{name}.rec"));
+        let samples = read_head(&file).expect("it is whole").samples();
+        let head = head_bytes(&file);
+        for place in 0..file.len() {
+            let mut changed = file.clone();
+            changed[place] = !changed[place];
+            refuses(of_a_changed_byte(&file, place), &changed, samples);
+            let cut = if place < head { 0 } else { place };
+            refuses(form(cut), &file[..place], samples);
         }
     }
 }
@@ -393,19 +443,28 @@ fn form_has_its_order() {
                     Fault::Mark
                 };
                 assert_eq!(broken(&any), Some(fault));
+                let refused = if left < 2 {
+                    form(any.len())
+                } else {
+                    wrong_mark(first)
+                };
+                refuses(refused, &any, 1024);
                 let fault = if left < 2 { fault } else { Fault::CutRest };
                 assert_eq!(broken(&marked), Some(fault));
+                refuses(form(marked.len()), &marked, 1024);
             }
             let mut changed = file.clone();
             changed[first + kind.bytes() - 1] ^= 1;
             assert_eq!(broken(&changed), Some(Fault::Sum));
+            refuses(wrong_sum(first + kind.bytes() - 2), &changed, 1024);
             changed[first + 3] ^= 1;
             assert_eq!(broken(&changed), Some(Fault::Number));
+            refuses(wrong_number(first + 2), &changed, 1024);
             changed[first] ^= 1;
             assert_eq!(broken(&changed), Some(Fault::Mark));
             // And none of them is behind another's record.
             changed.push(0);
-            refuses(form(first), &changed, 1024);
+            refuses(wrong_mark(first), &changed, 1024);
         }
         let longer = [file, vec![0]].concat();
         assert_eq!(broken(&longer), Some(Fault::Surplus));
@@ -420,18 +479,18 @@ fn a_mark_says_how_long_the_record_is() {
     let mut file = four.clone();
     let first = record_place(&file, 3);
     file[first + 1] = 0x36;
-    refuses(form(first), &file, 1024);
+    refuses(wrong_sum(first + 518), &file, 1024);
     let mut file = both.clone();
     // The last one is 4x4: as 16x16 it would have 7 bytes behind it, if its sum
     // were right there.
     let first = record_place(&file, 3);
     file[first + 1] = 0x36;
-    refuses(form(first), &file, 1024);
-    let sum: u16 = file[first..first + 518]
+    refuses(wrong_sum(first + 518), &file, 1024);
+    let added: u16 = file[first..first + 518]
         .iter()
         .map(|&byte| u16::from(byte))
         .fold(0, u16::wrapping_add);
-    file[first + 518..first + 520].copy_from_slice(&sum.to_be_bytes());
+    file[first + 518..first + 520].copy_from_slice(&added.to_be_bytes());
     refuses(form(file.len()), &file, 1024);
     // The third is 16x16, and the file ends before it would as 4x4.
     let mut file = both[..record_place(&both, 3)].to_vec();
@@ -451,7 +510,12 @@ fn records_have_their_order() {
             .map(|(number, macroblock)| macroblock.record(number))
             .collect();
         let (head, _) = file.split_at(head_bytes(&file));
-        refuses(form(head.len()), &[head, &records.concat()].concat(), 1024);
+        let place = head.len() + 2;
+        refuses(
+            wrong_number(place),
+            &[head, &records.concat()].concat(),
+            1024,
+        );
     }
 }
 
@@ -478,8 +542,8 @@ fn a_head_asks_for_a_size() {
     }
 }
 
-/// Marks, and what a mark promises: a head that is cut, of either kind and also
-/// where the other kind's length is there, or has a mark of neither.
+/// "The head the same without 12": cut, of either kind and also where the other
+/// kind's length is there; with a mark of neither; with another sum.
 #[test]
 fn a_head_has_its_form() {
     for head in [Head::Old.written(2, 3, 1), Head::New.written(2, 3, 1)] {
@@ -490,21 +554,48 @@ fn a_head_has_its_form() {
         for place in 0..head.len() {
             // No other value of a single byte leaves a sum of bytes as it was, nor is
             // the rest of a head of the other kind one of its own.
-            for change in 1..=255 {
+            for value in (0..=255).filter(|&value| value != head[place]) {
                 let mut changed = head.clone();
-                changed[place] ^= change;
+                changed[place] = value;
                 changed.extend([0; 4]);
-                assert_eq!(read_head(&changed), Err(form(0)));
+                let expected = match Head::of(&changed) {
+                    Some(kind) => wrong_sum(kind.bytes() - 2),
+                    None => wrong_mark(0),
+                };
+                assert_eq!(read_head(&changed), Err(expected));
             }
         }
     }
+    for mut head in [Head::Old.written(2, 3, 1), Head::New.written(2, 3, 1)] {
+        // The place is the sum's, whatever stands behind it.
+        let end = head.len();
+        head[end - 1] ^= 1;
+        head.extend([0xEE; 20]);
+        assert_eq!(read_head(&head), Err(wrong_sum(end - 2)));
+        // A mark that is none comes before a cut rest and before the sum.
+        head[1] = b'E';
+        for length in 2..head.len() {
+            assert_eq!(read_head(&head[..length]), Err(wrong_mark(0)));
+        }
+    }
     // The sum is right for a mark that is none.
-    for mark in [*b"HE", *b"IS", *b"MB", [0, 0]] {
+    for none in [*b"HE", *b"IS", *b"MB", [0, 0]] {
         let mut head = Head::New.written(1, 1, 1);
-        head[..2].copy_from_slice(&mark);
-        let sum: u16 = head[..8].iter().map(|&byte| u16::from(byte)).sum();
-        head[8..].copy_from_slice(&sum.to_be_bytes());
-        assert_eq!(read_head(&head), Err(form(0)));
+        head[..2].copy_from_slice(&none);
+        let added: u16 = head[..8].iter().map(|&byte| u16::from(byte)).sum();
+        head[8..].copy_from_slice(&added.to_be_bytes());
+        assert_eq!(read_head(&head), Err(wrong_mark(0)));
+    }
+}
+
+/// The head's sum comes before its size, and that before the records.
+#[test]
+fn a_head_has_its_order() {
+    for kind in Head::ALL {
+        let mut head = kind.written(0, 1, 1);
+        assert_eq!(read_head(&head), Err(SIZE));
+        head[kind.bytes() - 1] ^= 1;
+        assert_eq!(read_head(&head), Err(wrong_sum(kind.bytes() - 2)));
     }
 }
 
@@ -697,7 +788,7 @@ fn form_comes_before_content() {
         refuses(form(longer.len()), &longer, 1024);
         let last = record_place(&file, 3);
         file[last] ^= 1;
-        refuses(form(last), &file, 1024);
+        refuses(wrong_mark(last), &file, 1024);
     }
 }
 

@@ -1,5 +1,5 @@
 -- `head::read_head` meets its contract: cut mark, mark, cut rest, sum, then SIZE. Assumes nothing.
-use mathlib.Core.Path.{_≡_, sym, ap, _∙_}
+use mathlib.Core.Path.{_≡_, refl, sym, ap, _∙_}
 use mathlib.Core.Bool.{true}
 use Prim.Native.Nat.{ℕ, _≤_}
 use native.Mathlib.Omega.{arith}
@@ -8,6 +8,7 @@ use borrow.Author.Tests.{not-true, not-false}
 use lib.ListN.{length, take}
 use lib.Seq.{length-take-le}
 use Rattle.lists.specs.Chain.{stop}
+use Rattle.refusal.proofs.Faults.{early-there}
 use Rattle.refusal.proofs.Same.{says}
 use Rattle.refusal.specs.Faults.{refusalOf}
 use Rattle.refusal.specs.declared.Fault.the-variants.{Mark, Sum}
@@ -27,6 +28,9 @@ returns c =
 -- the head is as long as its mark says
 long-is : (c : tie.After-length-by) → c .length-by .result ≡ longAt (c .before .before .before .before .args .file .now)
 long-is c = c .length-by .ensures ∙ ap lengthBy (c .before .number-at .ensures)
+
+of-fault-requires : tie.Need-of-fault-requires
+of-fault-requires c κs = early-there Mark 0 _ _ refl
 
 returns-2 : tie.Need-returns-2
 returns-2 c =
@@ -71,6 +75,14 @@ sum-holds-requires c κs =
     let L = R .before .before in
     let file = L .before .before .before .before .args .file .now in
     rw (length-take-le (L .length-by .result) file (R .if3 .left)) (omega (arith, long-is L, length-some (numberAt 0 file) (marked (R .before)) .1))
+
+of-fault-requires-2 : tie.Need-of-fault-requires-2
+of-fault-requires-2 c κs =
+    let R = c .before .before .before in
+    let L = R .before .before in
+    let file = L .before .before .before .before .args .file .now in
+    let two = length-some (numberAt 0 file) (marked (R .before)) .1 in
+    record { some = λ h. omega (arith, long-is L, two); inside = λ h. omega (arith, R .if3 .left, long-is L, two) }
 
 -- the sum that was tested is the head's
 summed-up : (c : tie.After-sum-holds) → let file = c .before .before .before .before .before .before .before .before .args .file .now in c .sum-holds .result ≡ sumHolds (take (longAt file) file)
@@ -159,12 +171,12 @@ read-head-spec = tie.close
     returns
     (λ c κs. search needs)
     (λ c κs. search needs)
-    (λ c κs. search needs)
+    of-fault-requires
     returns-2
     returns-3
     slice-aggregate-sum-holds
     sum-holds-requires
-    (λ c κs. search needs)
+    of-fault-requires-2
     returns-4
     number-at-requires-2
     (λ c. search needs)

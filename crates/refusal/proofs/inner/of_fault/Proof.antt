@@ -1,22 +1,28 @@
--- `refusal::inner::of_fault` meets its contract, fault by fault. Assumes nothing.
+-- `refusal::inner::of_fault` meets its contract, fault by fault: the places of number and sum lie in the file. Assumes nothing.
+use mathlib.Core.Path.{ap}
+use native.Mathlib.Omega.{arith}
 use borrow.Author.Needs.{needs}
+use Rattle.refusal.specs.Faults.{late}
 use Rattle.refusal.proofs.inner.of_fault.Statement.{statement}
 use Rattle.refusal.proofs.inner.of_fault.Tie as tie
 
-enum-told : tie.Need-enum-told
-enum-told c = search needs
+add-t6 : tie.Need-add-t6
+add-t6 c =
+    let s = c .before .before in
+    let h = ap late (c .enum-told4 .given .1) in
+    record { fits = omega (arith, s .pre .some h, s .pre .inside h, s .fits .total .fits) }
 
-enum-told-2 : tie.Need-enum-told-2
-enum-told-2 c = search needs
+add-t7 : tie.Need-add-t7
+add-t7 c =
+    let s = c .before .before in
+    let h = ap late (c .enum-told5 .given .1) in
+    record { fits = omega (arith, s .pre .inside h, s .fits .total .fits) }
 
-enum-told-3 : tie.Need-enum-told-3
-enum-told-3 c = search needs
-
-enum-told-4 : tie.Need-enum-told-4
-enum-told-4 c = search needs
-
-enum-told-5 : tie.Need-enum-told-5
-enum-told-5 c = search needs
+sub-t8 : tie.Need-sub-t8
+sub-t8 c =
+    let s = c .before .before in
+    let h = ap late (c .enum-told5 .given .1) in
+    omega (arith, s .pre .some h)
 
 returns : tie.Need-returns
 returns c = rw (c .enum-told .given .1)
@@ -37,11 +43,14 @@ pub of-fault-spec : {M : Type 1} → statement M
 of-fault-spec =
     tie.close
     (tie.spec
-    enum-told
-    enum-told-2
-    enum-told-3
-    enum-told-4
-    enum-told-5
+    (λ c. search needs)
+    (λ c. search needs)
+    (λ c. search needs)
+    (λ c. search needs)
+    add-t6
+    (λ c. search needs)
+    add-t7
+    sub-t8
     returns
     returns-2
     returns-3

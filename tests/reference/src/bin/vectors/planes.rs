@@ -216,7 +216,8 @@ fn head(width: u16, height: u16) -> Vec<u8> {
 }
 
 /// Of both kinds: cut and longer; with each byte changed to 0, 255, its complement and one more; of sizes in and out of range. Of the new
-/// one: rows in and out of range. Its mark, and two that are none, before 8, 9 and 10 bytes in all that end with their sum.
+/// one: rows in and out of range. Its mark, and two that are none, before 8, 9 and 10 bytes in all that end with their sum; and marks that
+/// are none with 2, 3 and 7 bytes in all.
 pub fn read_head() -> Vec<Vec<Argument>> {
     let of_kind = |kind: Head| {
         let good = kind.written(3, 2, 1);
@@ -240,8 +241,13 @@ pub fn read_head() -> Vec<Vec<Argument>> {
         let ten = [mark.as_bytes(), &[0, 1, 0, 1, 0, 1, 0, 0]].concat();
         [8, 9, 10].map(|length| mended(ten[..length].to_vec()))
     });
+    let short = ["HE", "IS"].map(|mark| {
+        let seven = [mark.as_bytes(), &[0, 1, 0, 1, 0]].concat();
+        [2, 3, 7].map(|length| seven[..length].to_vec())
+    });
     let files = Head::ALL.map(of_kind).concat().into_iter();
-    let files = files.chain(rows).chain(none).chain(marked.concat());
+    let files = files.chain(rows).chain(none);
+    let files = files.chain(marked.concat()).chain(short.concat());
     files.map(|file| vec![Bytes(file)]).collect()
 }
 
@@ -282,8 +288,10 @@ pub fn decode_plane() -> Vec<Vec<Argument>> {
         fields(),
         damaged("random-04"),
         damaged("sixteen/random-02"),
+        changed_and_cut("slices/random-06"),
         surplus(),
         other_marks(),
+        no_marks(),
         damaged_heads(),
         new_heads_of_one_slice(),
         modes_in_slices(),
@@ -330,21 +338,26 @@ fn fields() -> Vec<Vec<Argument>> {
     files.map(|file| decoding(file, 512)).collect()
 }
 
-/// An outside file with wrong lengths; with each byte complemented; each of its beginnings; and with each byte exchanged for the next
-/// one, which leaves the sum as it is.
-fn damaged(name: &str) -> Vec<Vec<Argument>> {
+/// An outside file with each byte complemented, and each of its beginnings.
+fn changed_and_cut(name: &str) -> Vec<Vec<Argument>> {
     let (file, plane) = (outside(name, "rec"), outside(name, "plane").len());
     let complemented = (0..file.len()).map(|place| changed(&file, place, !file[place]));
     let cut = (0..file.len()).map(|length| file[..length].to_vec());
+    let files = complemented.chain(cut);
+    files.map(|file| decoding(file, plane)).collect()
+}
+
+/// The same, with wrong lengths, and with each byte exchanged for the next one, which leaves the sum as it is.
+fn damaged(name: &str) -> Vec<Vec<Argument>> {
+    let (file, plane) = (outside(name, "rec"), outside(name, "plane").len());
     let exchanged = (1..file.len()).map(|place| {
         let mut file = file.clone();
         file.swap(place - 1, place);
-        file
+        decoding(file, plane)
     });
-    let files = complemented.chain(cut).chain(exchanged);
-    let requests = files.map(|file| decoding(file, plane));
-    let lengths = wrong_lengths(&decoding(file.clone(), plane));
-    refused_first(lengths.into_iter().chain(requests))
+    let lengths = wrong_lengths(&decoding(file.clone(), plane)).into_iter();
+    let requests = lengths.chain(changed_and_cut(name)).chain(exchanged);
+    refused_first(requests)
 }
 
 /// A 1x2 file in two slices with each byte of its head changed to 0, its complement and one more, also with the sum mended; cut in its head
@@ -466,6 +479,24 @@ fn other_marks() -> Vec<Vec<Argument>> {
     });
     let files = marked.as_flattened().iter();
     let files = files.map(|record| [&head(1, 1), record.as_slice()].concat());
+    files.map(|file| decoding(file, 256)).collect()
+}
+
+/// A record with a mark that is none, whole, with its sum mended, and cut in the mark, behind it and before its last byte: the mark comes
+/// before the rest.
+fn no_marks() -> Vec<Vec<Argument>> {
+    let marked = blanks().map(|macroblock| {
+        let mut record = macroblock.record(0);
+        record[1] = b'X';
+        let cut = [1, 2, 3, record.len() - 1].map(|length| record[..length].to_vec());
+        [cut.as_slice(), &[record.clone(), mended(record)]].concat()
+    });
+    let heads = [head(1, 1), Head::New.written(1, 1, 1)];
+    let files = heads.map(|head| {
+        let files = marked.iter().flatten();
+        files.map(move |record| [head.as_slice(), record].concat())
+    });
+    let files = files.into_iter().flatten();
     files.map(|file| decoding(file, 256)).collect()
 }
 
