@@ -13,8 +13,8 @@
 
 #include "fleecebutton.h"
 
-/* Room for the arguments of the largest picture: a plane of 128x128 macroblocks, its rebuilt plane and its file. */
-static uint64_t arguments[(20 << 20) / 8];
+/* Room for the arguments of the largest picture: three planes of 128x128 macroblocks, the rebuilt ones and the file. */
+static uint64_t arguments[(26 << 20) / 8];
 
 static unsigned char read_ahead[1 << 16];
 static size_t read_from, read_to;
@@ -233,6 +233,32 @@ static uint64_t decode_plane(void) {
     return fb_decode_plane(file.at, file.length, plane.at, plane.length);
 }
 
+static uint64_t code_picture(void) {
+    size_t width = (size_t)number();
+    size_t height = (size_t)number();
+    size_t rows = (size_t)number();
+    uint8_t qp = (uint8_t)number();
+    int32_t cb_offset = (int32_t)number();
+    int32_t cr_offset = (int32_t)number();
+    struct bytes luma = bytes();
+    struct bytes cb = bytes();
+    struct bytes cr = bytes();
+    struct bytes file = bytes();
+    struct bytes luma_out = bytes();
+    struct bytes cb_out = bytes();
+    struct bytes cr_out = bytes();
+    return fb_code_picture(width, height, rows, qp, cb_offset, cr_offset, luma.at, luma.length, cb.at, cb.length, cr.at, cr.length,
+                           file.at, file.length, luma_out.at, luma_out.length, cb_out.at, cb_out.length, cr_out.at, cr_out.length);
+}
+
+static uint64_t decode_picture(void) {
+    struct bytes file = bytes();
+    struct bytes luma = bytes();
+    struct bytes cb = bytes();
+    struct bytes cr = bytes();
+    return fb_decode_picture(file.at, file.length, luma.at, luma.length, cb.at, cb.length, cr.at, cr.length);
+}
+
 static uint64_t quality_sheet(void) {
     size_t width = (size_t)number();
     size_t height = (size_t)number();
@@ -248,7 +274,7 @@ static uint64_t quality_sheet(void) {
 static uint64_t (*const functions[])(void) = {
     predict,        choose,           forward,          levels,           rebuild,    rebuild_with_dc,   luma_dc_levels,
     luma_dc_values, chroma_dc_levels, chroma_dc_values, chroma_quantizer, code_block, promised_distance, code_plane,
-    read_head,      decode_plane,     quality_sheet,
+    read_head,      decode_plane,     quality_sheet,    code_picture,     decode_picture,
 };
 
 int main(void) {

@@ -9,6 +9,10 @@ use Rattle.dc.proofs.inner.luma_levels.Kinds as luma-levels
 use Rattle.dc.proofs.inner.luma_levels.Reads as luma-levels-reads
 use Rattle.dc.proofs.inner.luma_values.Kinds as luma-values
 use Rattle.dc.proofs.inner.luma_values.Reads as luma-values-reads
+use Rattle.dc.proofs.inner.chroma_levels.Kinds as chroma-levels
+use Rattle.dc.proofs.inner.chroma_levels.Reads as chroma-levels-reads
+use Rattle.dc.proofs.inner.chroma_values.Kinds as chroma-values
+use Rattle.dc.proofs.inner.chroma_values.Reads as chroma-values-reads
 use Rattle.dc.proofs.luma_dc_levels.Kinds as luma-dc-levels
 use Rattle.dc.proofs.luma_dc_levels.Reads as luma-dc-levels-reads
 use Rattle.dc.proofs.luma_dc_values.Kinds as luma-dc-values
@@ -23,6 +27,12 @@ luma-levels-unique κs a x y e f p q = (p ∙ sym q, refl)
 
 pub luma-values-unique : Unique 0 luma-values.ps luma-values.r luma-values-reads.Learnt (Unit {0}) (λ κs e. tt)
 luma-values-unique κs a x y e f p q = (p ∙ sym q, refl)
+
+pub chroma-levels-unique : Unique 0 chroma-levels.ps chroma-levels.r chroma-levels-reads.Learnt (Unit {0}) (λ κs e. tt)
+chroma-levels-unique κs a x y e f p q = (p ∙ sym q, refl)
+
+pub chroma-values-unique : Unique 0 chroma-values.ps chroma-values.r chroma-values-reads.Learnt (Unit {0}) (λ κs e. tt)
+chroma-values-unique κs a x y e f p q = (p ∙ sym q, refl)
 
 pub luma-dc-levels-unique : Unique 2 luma-dc-levels.ps luma-dc-levels.r luma-dc-levels-reads.Learnt (List ℤ) (λ κs e. now (e .1 .1 .0))
 luma-dc-levels-unique κs a x y e f p q = (same-answer x y (says-same (p .says) ∙ sym (says-same (q .says))), p .wrote ∙ sym (q .wrote))

@@ -23,7 +23,7 @@ pub fn luma_levels(quantizer: Quantizer, dc: [i32; 16]) -> [i32; 16]
 }
 
 // The levels of four chroma DC values, in raster order.
-pub(crate) fn chroma_levels(quantizer: Quantizer, dc: [i32; 4]) -> [i32; 4]
+pub fn chroma_levels(quantizer: Quantizer, dc: [i32; 4]) -> [i32; 4]
     requires { ⌜ (quantizer .qp ≤ highest) × (Each 4080 dc) ⌝ }
     ensures { λ r. ⌜ r ≡ chromaLevels (quantizer .qp) dc ⌝ }
 {
@@ -61,7 +61,7 @@ pub fn luma_values(quantizer: Quantizer, levels: [i32; 16]) -> [i32; 16]
 }
 
 // The chroma DC values of four levels, both in raster order.
-pub(crate) fn chroma_values(quantizer: Quantizer, levels: [i32; 4]) -> [i32; 4]
+pub fn chroma_values(quantizer: Quantizer, levels: [i32; 4]) -> [i32; 4]
     requires { ⌜ (quantizer .qp ≤ highest) × (Each 32768 levels) ⌝ }
     ensures { λ r. ⌜ r ≡ chromaValues (quantizer .qp) levels ⌝ }
 {

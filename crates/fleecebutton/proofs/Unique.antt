@@ -37,6 +37,10 @@ use Rattle.fleecebutton.proofs.fb_code_plane.Kinds as fb-code-plane
 use Rattle.fleecebutton.proofs.fb_code_plane.Reads as fb-code-plane-reads
 use Rattle.fleecebutton.proofs.fb_read_head.Kinds as fb-read-head
 use Rattle.fleecebutton.proofs.fb_read_head.Reads as fb-read-head-reads
+use Rattle.fleecebutton.proofs.fb_code_picture.Kinds as fb-code-picture
+use Rattle.fleecebutton.proofs.fb_code_picture.Reads as fb-code-picture-reads
+use Rattle.fleecebutton.proofs.fb_decode_picture.Kinds as fb-decode-picture
+use Rattle.fleecebutton.proofs.fb_decode_picture.Reads as fb-decode-picture-reads
 use Rattle.fleecebutton.proofs.fb_decode_plane.Kinds as fb-decode-plane
 use Rattle.fleecebutton.proofs.fb_decode_plane.Reads as fb-decode-plane-reads
 use Rattle.fleecebutton.proofs.fb_quality_sheet.Kinds as fb-quality-sheet
@@ -97,6 +101,23 @@ fb-read-head-unique κs a x y e f p q = (p ∙ sym q, refl)
 
 pub fb-decode-plane-unique : Unique 2 fb-decode-plane.ps fb-decode-plane.r fb-decode-plane-reads.Learnt (List ℕ) (λ κs e. now (e .1 .0))
 fb-decode-plane-unique κs a x y e f p q = (p .word ∙ sym (q .word), p .wrote ∙ sym (q .wrote))
+
+-- all outputs at exit
+pub fb-code-picture-unique : Unique 7 fb-code-picture.ps fb-code-picture.r fb-code-picture-reads.Learnt (List ℕ × List ℕ × List ℕ × List ℕ)
+    (λ κs e. (now (e .1 .1 .1 .1 .1 .1 .1 .1 .1 .0), now (e .1 .1 .1 .1 .1 .1 .1 .1 .1 .1 .0), now (e .1 .1 .1 .1 .1 .1 .1 .1 .1 .1 .1 .0), now (e .1 .1 .1 .1 .1 .1 .1 .1 .1 .1 .1 .1 .0)))
+fb-code-picture-unique κs a x y e f p q =
+    let file = p .filed ∙ sym (q .filed) in
+    let luma = p .lumas ∙ sym (q .lumas) in
+    let cb = p .cbs ∙ sym (q .cbs) in
+    let cr = p .crs ∙ sym (q .crs) in
+    (p .word ∙ sym (q .word), λ i. (file i, luma i, cb i, cr i))
+
+pub fb-decode-picture-unique : Unique 4 fb-decode-picture.ps fb-decode-picture.r fb-decode-picture-reads.Learnt (List ℕ × List ℕ × List ℕ) (λ κs e. (now (e .1 .0), now (e .1 .1 .0), now (e .1 .1 .1 .0)))
+fb-decode-picture-unique κs a x y e f p q =
+    let luma = p .lumas ∙ sym (q .lumas) in
+    let cb = p .cbs ∙ sym (q .cbs) in
+    let cr = p .crs ∙ sym (q .crs) in
+    (p .word ∙ sym (q .word), λ i. (luma i, cb i, cr i))
 
 pub fb-quality-sheet-unique : Unique 4 fb-quality-sheet.ps fb-quality-sheet.r fb-quality-sheet-reads.Learnt (List Float) (λ κs e. now (e .1 .1 .1 .1 .1 .0))
 fb-quality-sheet-unique κs a x y e f p q = (p .word ∙ sym (q .word), p .wrote ∙ sym (q .wrote))

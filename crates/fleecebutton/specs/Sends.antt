@@ -24,10 +24,13 @@ use Rattle.quantizer.specs.Range.{numberTests}
 use Rattle.block.specs.Block.{codedLevels, codedSamples}
 use Rattle.block.specs.Entry.{codeTests}
 use Rattle.distance.specs.Entry.{samplesOff}
-use Rattle.head.specs.Entry.{headTests, widthAt, heightAt, rowsAt}
+use Rattle.head.specs.Entry.{headTests, longAt, widthAt, heightAt, rowsAt}
+use Rattle.record.specs.Records.{colourAt}
 use Rattle.picture.specs.Plane.{layoutOf}
 use Rattle.plane.specs.Code.{inSlices, codePlaneTests, codedFile, codedPlane}
-use Rattle.plane.specs.Decode.{decodeTests, decodedPlane}
+use Rattle.plane.specs.Decode.{layoutIn, decodeTests, decodedPlane}
+use Rattle.frame.specs.Code.{codePictureTests, codedFrame, codedBoth}
+use Rattle.frame.specs.Decode.{decodePictureTests, cbOf, crOf, colourNumber}
 use Rattle.sheet.specs.Entry.{writeTests}
 use Rattle.sheet.specs.Means.{givenOf, areaOf}
 use Rattle.fleecebutton.specs.Word.{wordOf, choiceValue, headValue, sheetValue, Sends}
@@ -85,11 +88,35 @@ pub record CodePlaneSends (width height rows qp : ℕ) (plane file rebuilt : Lis
   pub filed : file′ ≡ written (chain (codePlaneTests width height rows qp plane file rebuilt)) (over (codedFile (inSlices width height rows) qp plane) file) file
   pub stored : rebuilt′ ≡ written (chain (codePlaneTests width height rows qp plane file rebuilt)) (codedPlane (inSlices width height rows) qp plane) rebuilt
 
+-- four outputs: the file area and the three rebuilt planes; the value is the bytes used
+pub record CodePictureSends (width height rows qp : ℕ) (cbOffset crOffset : ℤ) (luma cb cr file lumaOut cbOut crOut : List ℕ) (w : ℕ) (file′ lumaOut′ cbOut′ crOut′ : List ℕ) : Type 0 where
+  pub word :
+      w ≡ wordOf (chain (codePictureTests width height rows qp cbOffset crOffset luma cb cr file lumaOut cbOut crOut))
+      (length (codedFrame (inSlices width height rows) qp cbOffset crOffset luma (record { cb = cb; cr = cr })))
+  pub filed :
+      file′ ≡ written (chain (codePictureTests width height rows qp cbOffset crOffset luma cb cr file lumaOut cbOut crOut))
+      (over (codedFrame (inSlices width height rows) qp cbOffset crOffset luma (record { cb = cb; cr = cr })) file) file
+  pub lumas :
+      lumaOut′ ≡ written (chain (codePictureTests width height rows qp cbOffset crOffset luma cb cr file lumaOut cbOut crOut)) (codedPlane (inSlices width height rows) qp luma) lumaOut
+  pub cbs :
+      cbOut′ ≡ written (chain (codePictureTests width height rows qp cbOffset crOffset luma cb cr file lumaOut cbOut crOut))
+      (codedBoth (inSlices width height rows) qp cbOffset crOffset (record { cb = cb; cr = cr }) .cb) cbOut
+  pub crs :
+      crOut′ ≡ written (chain (codePictureTests width height rows qp cbOffset crOffset luma cb cr file lumaOut cbOut crOut))
+      (codedBoth (inSlices width height rows) qp cbOffset crOffset (record { cb = cb; cr = cr }) .cr) crOut
+
 abbrev pub ReadHeadSends : (file : List ℕ) (w : ℕ) → Type 0
 ReadHeadSends file w = w ≡ wordOf (chain (headTests file)) (headValue (widthAt file) (heightAt file) (rowsAt file))
 
 abbrev pub DecodePlaneSends : (file before : List ℕ) (w : ℕ) (after : List ℕ) → Type 0
 DecodePlaneSends file before w after = Sends (decodeTests file before) 0 (decodedPlane file) before w after
+
+-- three outputs, the planes; the value is 1 for colour, 0 for mono
+pub record DecodePictureSends (file luma cb cr : List ℕ) (w : ℕ) (luma′ cb′ cr′ : List ℕ) : Type 0 where
+  pub word : w ≡ wordOf (chain (decodePictureTests file luma cb cr)) (colourNumber (colourAt (longAt file) file))
+  pub lumas : luma′ ≡ written (chain (decodePictureTests file luma cb cr)) (decodedPlane file) luma
+  pub cbs : cb′ ≡ written (chain (decodePictureTests file luma cb cr)) (cbOf (layoutIn file) (longAt file) file cb) cb
+  pub crs : cr′ ≡ written (chain (decodePictureTests file luma cb cr)) (crOf (layoutIn file) (longAt file) file cr) cr
 
 abbrev pub QualitySheetSends : (width height : ℕ) (original rebuilt map : List ℕ) (before : List Float) (w : ℕ) (after : List Float) → Type 0
 QualitySheetSends width height original rebuilt map before w after =

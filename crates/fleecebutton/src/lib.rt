@@ -14,8 +14,10 @@ ghost use Rattle.fleecebutton.specs.Sends.{
   CodeBlockSends,
   PromisedDistanceSends,
   CodePlaneSends,
+  CodePictureSends,
   ReadHeadSends,
   DecodePlaneSends,
+  DecodePictureSends,
   QualitySheetSends,
 };
 
@@ -159,6 +161,42 @@ pub extern "C" fn fb_code_plane(
     word::of_plane(plane::code_plane(width, height, rows, qp, plane, file, rebuilt))
 }
 
+// The same of a colour picture, whose chroma planes have quantizers of their own by their offsets from the QP.
+#[no_mangle]
+pub extern "C" fn fb_code_picture(
+    width: usize,
+    height: usize,
+    rows: usize,
+    qp: u8,
+    cb_offset: i32,
+    cr_offset: i32,
+    luma: &[u8],
+    cb: &[u8],
+    cr: &[u8],
+    file: &mut [u8],
+    luma_out: &mut [u8],
+    cb_out: &mut [u8],
+    cr_out: &mut [u8],
+) -> u64
+    ensures { λ r. ⌜ CodePictureSends width height rows qp «cb_offset» «cr_offset» (now (luma .entry)) (now (cb .entry)) (now (cr .entry)) (now (file .entry)) (now («luma_out» .entry)) (now («cb_out» .entry)) (now («cr_out» .entry)) r (now (file .exit)) (now («luma_out» .exit)) (now («cb_out» .exit)) (now («cr_out» .exit)) ⌝ }
+{
+    word::of_plane(frame::code_picture(
+        width,
+        height,
+        rows,
+        qp,
+        cb_offset,
+        cr_offset,
+        luma,
+        cb,
+        cr,
+        file,
+        luma_out,
+        cb_out,
+        cr_out,
+    ))
+}
+
 // The size of the picture whose file this is and the rows of a slice: width + 256 * height + 65536 * rows is the word's value.
 #[no_mangle]
 pub extern "C" fn fb_read_head(file: &[u8]) -> u64
@@ -167,12 +205,26 @@ pub extern "C" fn fb_read_head(file: &[u8]) -> u64
     word::of_head(head::read_head(file))
 }
 
-// The plane of a record file.
+// The luma plane of a record file, mono or colour.
 #[no_mangle]
 pub extern "C" fn fb_decode_plane(file: &[u8], plane: &mut [u8]) -> u64
     ensures { λ r. ⌜ DecodePlaneSends (now (file .entry)) (now (plane .entry)) r (now (plane .exit)) ⌝ }
 {
     word::of_answer(plane::decode_plane(file, plane))
+}
+
+// The planes of a record file: luma, and of a colour file Cb and Cr, whose planes a mono file leaves as they are. The word's value is 1 for colour,
+// 0 for mono.
+#[no_mangle]
+pub extern "C" fn fb_decode_picture(
+    file: &[u8],
+    luma: &mut [u8],
+    cb: &mut [u8],
+    cr: &mut [u8],
+) -> u64
+    ensures { λ r. ⌜ DecodePictureSends (now (file .entry)) (now (luma .entry)) (now (cb .entry)) (now (cr .entry)) r (now (luma .exit)) (now (cb .exit)) (now (cr .exit)) ⌝ }
+{
+    word::of_decoded(frame::decode_picture(file, luma, cb, cr))
 }
 
 // The sheet of an original plane, a rebuilt plane and a map of macroblocks present: three means, in the area. The word's value is 1 where there

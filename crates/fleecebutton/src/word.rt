@@ -8,9 +8,11 @@ ghost use Rattle.quantizer.specs.Range.{saidBuilt, qpOf};
 ghost use Rattle.distance.specs.Entry.{saidPromised, valueOf};
 ghost use Rattle.head.specs.Entry.{saidHead, widthOf, heightOf, rowsOf};
 ghost use Rattle.plane.specs.Code.{saidPlane, bytesUsed};
+ghost use Rattle.frame.specs.Decode.{saidDecoded, colourValue};
 ghost use Rattle.sheet.specs.Entry.{saidSheeted, givenIn};
 ghost use Rattle.fleecebutton.specs.Word.{places, wordOf, choiceValue, headValue, sheetValue};
 use distance::Promised;
+use frame::Decoded;
 use head::Head;
 use intra4::Chosen;
 use plane::CodedPlane;
@@ -98,6 +100,16 @@ pub(crate) fn of_plane(coded: CodedPlane) -> u64
     match coded {
         CodedPlane::Bytes(used) => of_success(used as u64),
         CodedPlane::Refused(refusal) => of_refusal(refusal),
+    }
+}
+
+pub(crate) fn of_decoded(decoded: Decoded) -> u64
+    ensures { λ r. ⌜ r ≡ wordOf (saidDecoded decoded) (colourValue decoded) ⌝ }
+{
+    match decoded {
+        Decoded::Mono => of_success(0),
+        Decoded::Colour => of_success(1),
+        Decoded::Refused(refusal) => of_refusal(refusal),
     }
 }
 

@@ -23,7 +23,7 @@ use Rattle.head.specs.Entry.{sizeHolds, rowsHold, longAt, widthAt, heigh
 use Rattle.head.specs.Heads.{oldMark, oldLength, oldHead, newMark, newLength, newHead, headOf, headLength, lengthBy}
 use Rattle.head.specs.declared.Head.{Head}
 use Rattle.head.specs.declared.Head.the-variants.{Legal}
-use Rattle.head.proofs.Heads.{head-legal, same-head}
+use Rattle.head.proofs.Heads.{tests-legal, same-head}
 
 module _ (width height rows : ℕ) where
   -- the old head or the new one
@@ -113,7 +113,7 @@ module _ (width height rows : ℕ) where
       pub head-own : chain (headTests (headOf width height rows ++ rest)) ≡ pass
       head-own =
           let long = length-append (headOf width height rows) rest in
-          head-legal (headOf width height rows ++ rest) (omega (arith, long, length-head, long-enough)) (omega (arith, long-back, long-enough))
+          tests-legal (headOf width height rows ++ rest) (omega (arith, long, length-head, long-enough)) (omega (arith, long-back, long-enough))
           (omega (arith, long, length-head, long-back)) sums-back (rw (width-back, height-back) size) (rw (height-back, rows-back) sliced)
 
       -- what `read_head` answers, whatever its contract allows

@@ -1,6 +1,6 @@
 -- What the tests of a head come to.
 --     length-unknown, length-some                                  a mark is a head's exactly if a head with it has a length
---     head-cut, head-mark, head-short, head-sum, head-size, head-rows, head-legal     the seven verdicts
+--     tests-cut, tests-mark, tests-short, tests-sum, tests-size, tests-rows, tests-legal     the seven verdicts
 --     same-head                                                    an answer is known by what it says and what comes back with it
 --     Sized, sized-of                                              what a size that holds tells
 --     Told, head-told                                              what a head that is legal tells
@@ -53,34 +53,34 @@ module _ (mark : ℕ) where
 -- ---- the verdicts
 
 module _ (file : List ℕ) where
-  pub head-cut : length file < 2 → chain (headTests file) ≡ stop (refusal.Form 0)
-  head-cut h = simp (lt-leb 2 (length file) h)
+  pub tests-cut : length file < 2 → chain (headTests file) ≡ stop (refusal.Form 0)
+  tests-cut h = simp (lt-leb 2 (length file) h)
 
   module _ (two : 2 ≤ length file) where
-    pub head-mark : longAt file < 1 → chain (headTests file) ≡ stop (refusalOf Mark 0 (longAt file) (length file))
-    head-mark e = simp (le-leb 2 (length file) two, length-unknown (numberAt 0 file) e)
+    pub tests-mark : longAt file < 1 → chain (headTests file) ≡ stop (refusalOf Mark 0 (longAt file) (length file))
+    tests-mark e = simp (le-leb 2 (length file) two, length-unknown (numberAt 0 file) e)
 
     module _ (mark : 1 ≤ longAt file) where
       marked : isHead (numberAt 0 file) ≡ true
       marked = length-some (numberAt 0 file) mark .0
 
-      pub head-short : length file < longAt file → chain (headTests file) ≡ stop (refusal.Form 0)
-      head-short h = simp (le-leb 2 (length file) two, marked, lt-leb (longAt file) (length file) h)
+      pub tests-short : length file < longAt file → chain (headTests file) ≡ stop (refusal.Form 0)
+      tests-short h = simp (le-leb 2 (length file) two, marked, lt-leb (longAt file) (length file) h)
 
       module _ (room : longAt file ≤ length file) where
-        pub head-sum : sumHolds (take (longAt file) file) ≡ false → chain (headTests file) ≡ stop (refusalOf Sum 0 (longAt file) (length file))
-        head-sum e = simp (le-leb 2 (length file) two, marked, le-leb (longAt file) (length file) room, e)
+        pub tests-sum : sumHolds (take (longAt file) file) ≡ false → chain (headTests file) ≡ stop (refusalOf Sum 0 (longAt file) (length file))
+        tests-sum e = simp (le-leb 2 (length file) two, marked, le-leb (longAt file) (length file) room, e)
 
         module _ (sum : sumHolds (take (longAt file) file) ≡ true) where
-          pub head-size : sizeHolds (widthAt file) (heightAt file) ≡ false → chain (headTests file) ≡ stop refusal.Size
-          head-size e = simp (le-leb 2 (length file) two, marked, le-leb (longAt file) (length file) room, sum, e)
+          pub tests-size : sizeHolds (widthAt file) (heightAt file) ≡ false → chain (headTests file) ≡ stop refusal.Size
+          tests-size e = simp (le-leb 2 (length file) two, marked, le-leb (longAt file) (length file) room, sum, e)
 
           module _ (size : sizeHolds (widthAt file) (heightAt file) ≡ true) where
-            pub head-rows : rowsHold (heightAt file) (rowsAt file) ≡ false → chain (headTests file) ≡ stop refusal.Size
-            head-rows e = simp (le-leb 2 (length file) two, marked, le-leb (longAt file) (length file) room, sum, size, e)
+            pub tests-rows : rowsHold (heightAt file) (rowsAt file) ≡ false → chain (headTests file) ≡ stop refusal.Size
+            tests-rows e = simp (le-leb 2 (length file) two, marked, le-leb (longAt file) (length file) room, sum, size, e)
 
-            pub head-legal : rowsHold (heightAt file) (rowsAt file) ≡ true → chain (headTests file) ≡ pass
-            head-legal e = simp (le-leb 2 (length file) two, marked, le-leb (longAt file) (length file) room, sum, size, e)
+            pub tests-legal : rowsHold (heightAt file) (rowsAt file) ≡ true → chain (headTests file) ≡ pass
+            tests-legal e = simp (le-leb 2 (length file) two, marked, le-leb (longAt file) (length file) room, sum, size, e)
 
 -- ---- what a legal head tells
 

@@ -1,14 +1,16 @@
 -- The content of a record of either kind, and that a decoder accepts the coder's record and rebuilds its macroblock as the coder did.
 --     kind-long                   either kind has a mark
 --     tests-whole, tests-fours, rebuilt-whole, rebuilt-fours     the tests and the step of a record, by its kind
+--     content-legal               a record whose content is fine has a legal QP
 --     content-not-broken          no test of a record's content says that the file is broken
+--     qp-record-from              the coder's record says the QP
 --     content-own, step-again     of the coder's record: its content is fine; its macroblock is rebuilt as the coder rebuilt it
 -- Assumes nothing.
 use mathlib.Core.Path.{_≡_, refl, sym, ap, _∙_}
 use mathlib.Core.Bool.{Bool, true, false, cond}
 use mathlib.Core.List.{List}
 use mathlib.Core.Logic.{inl, inr}
-use Prim.Native.Nat.{ℕ, _<_, _≤_}
+use Prim.Native.Nat.{ℕ, _*_, _<_, _≤_}
 use native.Mathlib.Omega.{arith}
 use Rattle.lists.specs.Bytes.{Bytes}
 use Rattle.lists.specs.Chain.{pass, stop, chain, RefusedWith}
@@ -17,22 +19,23 @@ use Rattle.refusal.specs.Faults.{isBroken}
 use Rattle.refusal.specs.declared.Refusal.{Refusal}
 use Rattle.refusal.proofs.Faults.{false-not-true}
 use Rattle.quantizer.specs.Range.{highest}
+use Rattle.quantizer.proofs.Range.{number-legal}
 use Rattle.record.specs.Kinds.{inFours, inWhole, lengthOf}
-use Rattle.record.specs.Records.{isWhole}
+use Rattle.record.specs.Records.{isWhole, qpIn}
 use Rattle.picture.specs.declared.Layout.{Layout}
 use Rattle.macroblock4.specs.Code.{recordFrom4, codedStep4}
 use Rattle.macroblock4.specs.Content.{contentTests4}
 use Rattle.macroblock4.specs.Rebuild.{rebuiltStep4}
-use Rattle.macroblock4.proofs.CodedRecord.{content-own4, step-again4}
+use Rattle.macroblock4.proofs.CodedRecord.{qp-said, content-own4, step-again4}
 use Rattle.macroblock4.proofs.RecordFrom.{not-whole-from4}
 use Rattle.macroblock16.specs.Code.{recordFrom16, codedStep16}
 use Rattle.macroblock16.specs.Content.{contentTests16}
 use Rattle.macroblock16.specs.Rebuild.{rebuiltStep16}
-use Rattle.macroblock16.proofs.CodedRecord.{is-whole-from16, content-own16, step-again16}
+use Rattle.macroblock16.proofs.CodedRecord.{qp-said16, is-whole-from16, content-own16, step-again16}
 use Rattle.macroblock.specs.Code.{recordFrom, codedStep}
 use Rattle.macroblock.specs.Content.{kindBy, contentTests}
 use Rattle.macroblock.specs.Rebuild.{rebuiltStep}
-use Rattle.macroblock.proofs.RecordFrom.{together}
+use Rattle.macroblock.proofs.RecordFrom.{either, together}
 
 -- either kind has a mark
 pub kind-long : (part : List ℕ) → 1 < lengthOf (kindBy part)
@@ -59,11 +62,18 @@ module _ (l : Layout) (m : ℕ) (part : List ℕ) where
   unfolding rebuiltStep
   rebuilt-fours plane e = rw e
 
+  pub content-legal : chain (contentTests l m part) ≡ pass → qpIn part ≤ highest
+  content-legal e = by (isWhole part) refl
+    where
+      by : (b : Bool) → isWhole part ≡ b → qpIn part ≤ highest
+      by true q = number-legal (16 * m) (qpIn part) (chain-exactly-if (contentTests16 l m part) .passes .0 (sym (ap chain (tests-whole q)) ∙ e) .0)
+      by false q = number-legal (16 * m) (qpIn part) (chain-exactly-if (contentTests4 l m part) .passes .0 (sym (ap chain (tests-fours q)) ∙ e) .0)
+
 -- ---- none of its refusals says that the file is broken
 
 module _ (l : Layout) (m : ℕ) (part : List ℕ) (r : Refusal) (broken : isBroken r ≡ true) where
-  whole-not-broken : chain (contentTests16 l m part) ≡ stop r → ⊥
-  whole-not-broken e = by (chain-exactly-if (contentTests16 l m part) .refuses r .0 e)
+  content16-not-broken : chain (contentTests16 l m part) ≡ stop r → ⊥
+  content16-not-broken e = by (chain-exactly-if (contentTests16 l m part) .refuses r .0 e)
     where
       by : RefusedWith (contentTests16 l m part) r → ⊥
       by (inl (a, q)) = false-not-true (sym (ap isBroken q) ∙ broken)
@@ -72,8 +82,8 @@ module _ (l : Layout) (m : ℕ) (part : List ℕ) (r : Refusal) (broken : isBrok
       by (inr (a, inr (b, inr (c, inl (d, q))))) = false-not-true (sym (ap isBroken q) ∙ broken)
       by (inr (a, inr (b, inr (c, inr (d, q))))) = q
 
-  fours-not-broken : chain (contentTests4 l m part) ≡ stop r → ⊥
-  fours-not-broken e = by (chain-exactly-if (contentTests4 l m part) .refuses r .0 e)
+  content4-not-broken : chain (contentTests4 l m part) ≡ stop r → ⊥
+  content4-not-broken e = by (chain-exactly-if (contentTests4 l m part) .refuses r .0 e)
     where
       by : RefusedWith (contentTests4 l m part) r → ⊥
       by (inl (a, q)) = false-not-true (sym (ap isBroken q) ∙ broken)
@@ -85,8 +95,8 @@ module _ (l : Layout) (m : ℕ) (part : List ℕ) (r : Refusal) (broken : isBrok
   content-not-broken e = by (isWhole part) refl
     where
       by : (b : Bool) → isWhole part ≡ b → ⊥
-      by true q = whole-not-broken (sym (ap chain (tests-whole l m part q)) ∙ e)
-      by false q = fours-not-broken (sym (ap chain (tests-fours l m part q)) ∙ e)
+      by true q = content16-not-broken (sym (ap chain (tests-whole l m part q)) ∙ e)
+      by false q = content4-not-broken (sym (ap chain (tests-fours l m part q)) ∙ e)
 
 -- ---- the coder's record
 
@@ -96,6 +106,11 @@ module _ (l : Layout) (qp : ℕ) (legal : qp ≤ highest) (original : List ℕ) 
 
   abbrev sixteen : List ℕ
   sixteen = recordFrom16 l qp original m before
+
+  pub qp-record-from : qpIn (recordFrom l qp original m before) ≡ qp
+  unfolding recordFrom
+  qp-record-from =
+      either (λ (r : List ℕ). qpIn r ≡ qp) (together l qp original m before) (qp-said16 l qp original m before) (qp-said l qp legal original bytes m before small)
 
   pub content-own : chain (contentTests l m (recordFrom l qp original m before)) ≡ pass
   unfolding recordFrom

@@ -13,7 +13,7 @@ use lib.Dec.{ltb}
 use lib.ListN.{length}
 use Rattle.lists.specs.Parts.{over}
 use Rattle.lists.proofs.Parts.{front-home}
-use Rattle.record.specs.Kinds.{inFours, lengthOf}
+use Rattle.record.specs.Kinds.{inFours, lengthOf, expectedLuma}
 use Rattle.record.proofs.Back.{Own}
 use Rattle.picture.specs.declared.Layout.{Layout}
 use Rattle.picture.specs.Whole.{gatheredRound}
@@ -42,6 +42,6 @@ module _ (l : Layout) (qp : ℕ) (original : List ℕ) (m : ℕ) (before : List 
       either (λ (r : List ℕ). length r ≤ lengthOf inFours) together
       (omega (arith, length-record-from16 l qp original m before)) (omega (arith, length-record-from4 l qp original m before))
 
-  pub own-record-from : Own m (recordFrom l qp original m before)
+  pub own-record-from : Own (expectedLuma m) (recordFrom l qp original m before)
   unfolding recordFrom
-  own-record-from = either (Own m) together (own-record-from16 l qp original m before) (own-record-from4 l qp original m before)
+  own-record-from = either (Own (expectedLuma m)) together (own-record-from16 l qp original m before) (own-record-from4 l qp original m before)

@@ -26,9 +26,9 @@ use Rattle.intra4.specs.Rules.{samplesOf}
 use Rattle.sides.specs.Rules.{predicted, permitted}
 use Rattle.sides.proofs.Bytes.{predicted-bytes, predicted-long}
 use Rattle.sides.proofs.Least.{chosen-mode}
-use Rattle.residual16.specs.Rebuilt.{sixteenSamples, dcFits, firstAc}
-use Rattle.residual16.proofs.Own.{OwnSixteen, own-sixteen-in-range, length-own}
-use Rattle.record.specs.Kinds.{inWhole, lengthOf}
+use Rattle.residual_whole.specs.Rebuilt.{wholeSamples, dcFits, firstAc}
+use Rattle.residual_whole.proofs.Own.{OwnLevels, own-levels-accepted, length-own}
+use Rattle.record.specs.Kinds.{inWhole, lengthOf, expectedLuma}
 use Rattle.record.specs.Records.{qpIn, wholeModeIn, isWhole}
 use Rattle.record.proofs.Back.{Own, own-whole, length-whole, is-whole, whole-qp-back, whole-mode-back, whole-levels-back}
 use Rattle.picture.specs.declared.Layout.{Layout}
@@ -59,7 +59,7 @@ module _ (l : Layout) (original : List ℕ) (m : ℕ) (neighbours : List ℕ) wh
 module _ (l : Layout) (qp : ℕ) (original : List ℕ) (m : ℕ) where
   pub length-levels-from16 : (neighbours : List ℕ) → length (levelsFrom16 l qp original m neighbours) ≡ inWhole .levels
   unfolding levelsFrom16
-  length-levels-from16 neighbours = length-own qp (wholeOf 16 l m original) (predictionFrom16 l original m neighbours)
+  length-levels-from16 neighbours = length-own 16 tt qp (wholeOf 16 l m original) (predictionFrom16 l original m neighbours)
 
   module _ (before : List ℕ) where
     abbrev around : List ℕ
@@ -74,7 +74,7 @@ module _ (l : Layout) (qp : ℕ) (original : List ℕ) (m : ℕ) where
     unfolding recordFrom16
     length-record-from16 = length-whole m qp (modeFrom16 l original m around) (levelsFrom16 l qp original m around) (length-levels-from16 around)
 
-    pub own-record-from16 : Own m own
+    pub own-record-from16 : Own (expectedLuma m) own
     unfolding recordFrom16
     own-record-from16 = own-whole m qp (modeFrom16 l original m around) (levelsFrom16 l qp original m around) (length-levels-from16 around)
 
@@ -84,7 +84,7 @@ module _ (l : Layout) (qp : ℕ) (original : List ℕ) (m : ℕ) where
 
     -- ---- what it says
 
-    qp-said16 : qpIn own ≡ qp
+    pub qp-said16 : qpIn own ≡ qp
     unfolding recordFrom16
     qp-said16 = whole-qp-back m qp (modeFrom16 l original m around) (levelsFrom16 l qp original m around)
 
@@ -93,11 +93,11 @@ module _ (l : Layout) (qp : ℕ) (original : List ℕ) (m : ℕ) where
     mode-said16 = whole-mode-back m qp (modeFrom16 l original m around) (levelsFrom16 l qp original m around)
 
     module _ (legal : qp ≤ highest) (bytes : Bytes original) (small : Bytes before) where
-      own16 : OwnSixteen qp (wholeOf 16 l m original) (predictionFrom16 l original m around) legal
+      own16 : OwnLevels 16 tt qp (wholeOf 16 l m original) (predictionFrom16 l original m around) legal
           (block-bytes 16 (stride 16 l) (wholeColumn 16 l m) (wholeRow 16 l m) original bytes)
           (prediction-bytes16 l original m around (gathered-round-bytes 16 l m before small))
       own16 =
-          own-sixteen-in-range qp (wholeOf 16 l m original) (predictionFrom16 l original m around) legal
+          own-levels-accepted 16 tt qp (wholeOf 16 l m original) (predictionFrom16 l original m around) legal
           (block-bytes 16 (stride 16 l) (wholeColumn 16 l m) (wholeRow 16 l m) original bytes)
           (prediction-bytes16 l original m around (gathered-round-bytes 16 l m before small))
 
@@ -114,17 +114,17 @@ module _ (l : Layout) (qp : ℕ) (original : List ℕ) (m : ℕ) where
       pub content-own16 : chain (contentTests16 l m own) ≡ pass
       unfolding levelsFrom16
       content-own16 =
-          let ac : firstAc (qpIn own) (wholeLevelsIn own) ≡ 16 = (λ i. firstAc (qp-said16 i) (levels-said16 i)) ∙ own16 .ac-fine in
+          let ac : firstAc 16 (qpIn own) (wholeLevelsIn own) ≡ 16 = (λ i. firstAc 16 (qp-said16 i) (levels-said16 i)) ∙ own16 .ac-fine in
           content-fine16 l m own (omega (arith, qp-said16))
           (ap (permitted (flagsRound 16 l m)) mode-said16 ∙ mode-permitted16 l original m around)
-          ((λ i. dcFits (qp-said16 i) (levels-said16 i)) ∙ own16 .dc-fine)
+          ((λ i. dcFits 16 (qp-said16 i) (levels-said16 i)) ∙ own16 .dc-fine)
           (omega (arith, ac))
 
       -- ---- it is rebuilt as the coder rebuilt it
 
       whole-again : wholeFrom l own m around ≡ samplesFrom16 l qp original m around
       unfolding wholeFrom samplesFrom16 predictionFrom16
-      whole-again = λ i. sixteenSamples (qp-said16 i) (samplesOf (predicted (roundWhole l m around) (mode-said16 i))) (levels-said16 i)
+      whole-again = λ i. wholeSamples 16 (qp-said16 i) (samplesOf (predicted (roundWhole l m around) (mode-said16 i))) (levels-said16 i)
 
       pub step-again16 : rebuiltStep16 l m own before ≡ codedStep16 l qp original m before
       unfolding rebuiltStep16 codedStep16 wholeTurn
@@ -137,8 +137,8 @@ pub record Ready (qp : ℕ) (levels : List ℤ) (prediction : List ℕ) : Type 0
   pub long : length levels ≡ 256
   pub fits : (k : ℕ) → SFits w16 (getD levels k (pos 0))
   pub small : Each 32768 levels
-  pub dc : dcFits qp levels ≡ true
-  pub ac : firstAc qp levels ≡ 16
+  pub dc : dcFits 16 qp levels ≡ true
+  pub ac : firstAc 16 qp levels ≡ 16
   pub samples : length prediction ≡ 256
 
 module _ {l : Layout} {m qp : ℕ} {original before : List ℕ} {found : Standing} {levels : List ℤ} {prediction : List ℕ} (c : Candidate l m qp original before found levels prediction) where
@@ -151,12 +151,12 @@ module _ {l : Layout} {m qp : ℕ} {original before : List ℕ} {found : Standin
         long = ap length e ∙ o .long;
         fits = λ k. subst (λ (t : List ℤ). SFits w16 (getD t k (pos 0))) (sym e) (o .fits k);
         small = subst (Each 32768) (sym e) (each-less 6528 32768 (levelsFrom16 l qp original m (gatheredRound 16 l m before)) (o .small) tt);
-        dc = ap (dcFits qp) e ∙ o .dc-fine;
-        ac = ap (firstAc qp) e ∙ o .ac-fine;
+        dc = ap (dcFits 16 qp) e ∙ o .dc-fine;
+        ac = ap (firstAc 16 qp) e ∙ o .ac-fine;
         samples = ap length (c .shown) ∙ length-prediction16 l original m (gatheredRound 16 l m before);
       }
 
   -- with its samples stored the plane has made the candidate's step, and its record is that of its mode and its levels
-  pub stored16 : {after : List ℕ} → after ≡ withWhole 16 l m (sixteenSamples qp prediction levels) before → after ≡ codedStep16 l qp original m before
+  pub stored16 : {after : List ℕ} → after ≡ withWhole 16 l m (wholeSamples 16 qp prediction levels) before → after ≡ codedStep16 l qp original m before
   unfolding codedStep16 wholeTurn samplesFrom16
-  stored16 e = e ∙ (λ i. withWhole 16 l m (sixteenSamples qp (c .shown i) (c .coded i)) before)
+  stored16 e = e ∙ (λ i. withWhole 16 l m (wholeSamples 16 qp (c .shown i) (c .coded i)) before)

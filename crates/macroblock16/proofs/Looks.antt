@@ -8,7 +8,7 @@ use mathlib.Core.List.{List}
 use Prim.Native.Nat.{ℕ, _<_}
 use native.Mathlib.Omega.{arith}
 use Rattle.lists.specs.Bytes.{Bytes}
-use Rattle.residual16.proofs.Samples.{sixteen-bytes}
+use Rattle.residual_whole.proofs.Samples.{whole-bytes}
 use Rattle.record.specs.Records.{recordWhole}
 use Rattle.picture.specs.declared.Layout.{Layout}
 use Rattle.picture.specs.Order.{countOf}
@@ -39,4 +39,4 @@ module _ (l : Layout) (some : 0 < l .width) (m : ℕ) (among : m < countOf l) wh
 
 pub coded-bytes16 : (l : Layout) (qp : ℕ) (original : List ℕ) (m : ℕ) (before : List ℕ) → Bytes before → Bytes (codedStep16 l qp original m before)
 unfolding codedStep16 samplesFrom16
-coded-bytes16 l qp original m before small = whole-turn-bytes 16 (samplesFrom16 l qp original) (λ m neighbours long near. sixteen-bytes _ _ _) l m before small
+coded-bytes16 l qp original m before small = whole-turn-bytes 16 (samplesFrom16 l qp original) (λ m neighbours long near. whole-bytes 16 _ _ _) l m before small

@@ -12,8 +12,8 @@ use Rattle.intra4.specs.Rules.{samplesOf}
 use Rattle.sides.specs.Choice.{chosen, Picks}
 use Rattle.sides.specs.Rules.{predicted}
 use Rattle.sides.specs.Samples.{mask}
-use Rattle.residual16.specs.Coded.{sixteenLevels}
-use Rattle.residual16.specs.Rebuilt.{sixteenSamples}
+use Rattle.residual_whole.specs.Coded.{wholeLevels}
+use Rattle.residual_whole.specs.Rebuilt.{wholeSamples}
 use Rattle.record.specs.Records.{qpIn, wholeModeIn}
 use Rattle.picture.specs.declared.Layout.{Layout}
 use Rattle.picture.specs.Whole.{wholeOf, withWhole, flagsRound, gatheredRound, wholeTurn}
@@ -23,7 +23,7 @@ use Rattle.macroblock16.specs.Rebuild.{roundWhole, wholeFrom, rebuiltSte
 
 pub candidate-made : (l : Layout) (m qp : ℕ) (original before : List ℕ) (found : Standing) {flags : ℕ} {n s prediction : List ℕ} {levels : List ℤ}
     → flags ≡ flagsRound 16 l m → n ≡ gatheredRound 16 l m before → s ≡ wholeOf 16 l m original
-    → Picks (mask 16 n flags) s found prediction → levels ≡ sixteenLevels qp s prediction
+    → Picks (mask 16 n flags) s found prediction → levels ≡ wholeLevels 16 qp s prediction
     → Candidate l m qp original before found levels prediction
 unfolding modeFrom16 sadFrom16 predictionFrom16 levelsFrom16
 candidate-made l m qp original before found is-f is-n is-s picks is-l =
@@ -33,16 +33,16 @@ candidate-made l m qp original before found is-f is-n is-s picks is-l =
     record {
       mode = ap modeOf best;
       sad = ap sadOf best;
-      coded = is-l ∙ (λ i. sixteenLevels qp (is-s i) (shown i));
+      coded = is-l ∙ (λ i. wholeLevels 16 qp (is-s i) (shown i));
       shown = shown;
     }
 
 pub whole-made : (l : Layout) (part : List ℕ) (m : ℕ) (plane : List ℕ) {flags mode qp : ℕ} {n p after : List ℕ} {levels : List ℤ}
     → flags ≡ flagsRound 16 l m → n ≡ gatheredRound 16 l m plane → mode ≡ wholeModeIn part → p ≡ samplesOf (predicted (mask 16 n flags) mode)
     → qp ≡ qpIn part → levels ≡ wholeLevelsIn part
-    → after ≡ withWhole 16 l m (sixteenSamples qp p levels) plane
+    → after ≡ withWhole 16 l m (wholeSamples 16 qp p levels) plane
     → after ≡ rebuiltStep16 l m part plane
 unfolding rebuiltStep16 wholeTurn wholeFrom
 whole-made l part m plane is-f is-n is-m is-p is-q is-l is-a =
     let shown = is-p ∙ (λ i. samplesOf (predicted (mask 16 (is-n i) (is-f i)) (is-m i))) in
-    is-a ∙ (λ i. withWhole 16 l m (sixteenSamples (is-q i) (shown i) (is-l i)) plane)
+    is-a ∙ (λ i. withWhole 16 l m (wholeSamples 16 (is-q i) (shown i) (is-l i)) plane)

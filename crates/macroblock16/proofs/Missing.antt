@@ -1,38 +1,24 @@
 -- A missing neighbour has no value, for a macroblock predicted whole too (01; 02, Req 01).
---     same-round               planes that agree at every neighbour that is present have the same neighbours round the macroblock
 --     same-candidate           of the same neighbours the candidate is the same
 --     missing-has-no-value     of any two calls of `code_candidate16` that differ in the rebuilt plane only, and there not at a neighbour
 --                              that is present: the same mode and SAD, levels and prediction, and the same samples of these
 -- Assumes nothing.
-use mathlib.Core.Path.{_≡_, refl, sym, ap, _∙_}
-use mathlib.Core.Bool.{Bool, true, false, cond}
+use mathlib.Core.Path.{_≡_, sym, ap, _∙_}
 use mathlib.Core.List.{List}
-use Prim.Native.Nat.{ℕ, _-_, _<_}
+use Prim.Native.Nat.{ℕ}
 use contract.Lifetimes.{Lfts}
 use denote.Ref.{now}
 use denote.Triple.Clauses.{AtExit}
 use borrow.Fn.Kinds.{Dens, resT, endedOf}
 use lib.IntN.{ℤ}
-use Rattle.lists.proofs.Tab.{tab-same}
 use Rattle.choice.specs.declared.inner.Standing.{Standing}
-use Rattle.residual16.specs.Rebuilt.{sixteenSamples}
+use Rattle.residual_whole.specs.Rebuilt.{wholeSamples}
 use Rattle.picture.specs.declared.Layout.{Layout}
-use Rattle.picture.specs.Plane.{stride, sampleAt}
-use Rattle.picture.specs.Whole.{roundColumn, roundRow, presentRound, roundSample, gatheredRound}
+use Rattle.picture.specs.Whole.{gatheredRound, AgreeRound}
+use Rattle.picture.proofs.Round.{gathered-round-same}
 use Rattle.macroblock16.specs.Code.{modeFrom16, sadFrom16, predictionFrom16, levelsFrom16, Candidate}
-use Rattle.macroblock16.specs.Missing.{AgreeRound}
 use Rattle.macroblock16.proofs.inner.code_candidate16.Kinds as code-candidate16
 use Rattle.macroblock16.proofs.inner.code_candidate16.Reads as code-candidate16-reads
-
-pub same-round : (l : Layout) (m : ℕ) (p q : List ℕ) → AgreeRound l m p q → gatheredRound 16 l m p ≡ gatheredRound 16 l m q
-unfolding gatheredRound roundSample
-same-round l m p q agree = tab-same 33 _ _ (λ k h. by-case k h (presentRound 16 l m k) refl)
-  where
-    by-case : (k : ℕ) → k < 33 → (t : Bool) → presentRound 16 l m k ≡ t
-        → cond t (sampleAt (stride 16 l) p (roundColumn 16 l m k - 1) (roundRow 16 l m k - 1)) 0
-        ≡ cond t (sampleAt (stride 16 l) q (roundColumn 16 l m k - 1) (roundRow 16 l m k - 1)) 0
-    by-case k h false e = refl
-    by-case k h true e = agree k h e
 
 -- what two candidates leave
 abbrev Same : (r r′ : Standing) (levels levels′ : List ℤ) (prediction prediction′ : List ℕ) → Type 0
@@ -77,11 +63,11 @@ module _ (κs κs′ : Lfts 4) (a : Dens κs code-candidate16.ps) (a′ : Dens �
   prediction = now (e .1 .1 .1 .1 .1 .1 .0)
 
   pub missing-has-no-value : a′ .0 ≡ layout → a′ .1 .0 ≡ number → a′ .1 .1 .0 .qp ≡ quantizer → now (a′ .1 .1 .1 .0) ≡ original
-      → AgreeRound layout number rebuilt (now (a′ .1 .1 .1 .1 .0))
+      → AgreeRound 16 layout number rebuilt (now (a′ .1 .1 .1 .1 .0))
       → (r ≡ r′) × (levels ≡ now (e′ .1 .1 .1 .1 .1 .0)) × (prediction ≡ now (e′ .1 .1 .1 .1 .1 .1 .0))
-      × (sixteenSamples quantizer prediction levels ≡ sixteenSamples quantizer (now (e′ .1 .1 .1 .1 .1 .1 .0)) (now (e′ .1 .1 .1 .1 .1 .0)))
+      × (wholeSamples 16 quantizer prediction levels ≡ wholeSamples 16 quantizer (now (e′ .1 .1 .1 .1 .1 .1 .0)) (now (e′ .1 .1 .1 .1 .1 .0)))
   missing-has-no-value is-l is-m is-q is-o agree =
       let c : Candidate layout number quantizer original (now (a′ .1 .1 .1 .1 .0)) r′ (now (e′ .1 .1 .1 .1 .1 .0)) (now (e′ .1 .1 .1 .1 .1 .1 .0)) =
       coe 0 1 (i. Candidate (is-l i) (is-m i) (is-q i) (is-o i) (now (a′ .1 .1 .1 .1 .0)) r′ (now (e′ .1 .1 .1 .1 .1 .0)) (now (e′ .1 .1 .1 .1 .1 .1 .0))) learnt′ in
-      let s = same-candidate (same-round layout number rebuilt (now (a′ .1 .1 .1 .1 .0)) agree) learnt c in
-      (s .0, s .1, s .2, λ i. sixteenSamples quantizer (s .2 i) (s .1 i))
+      let s = same-candidate (gathered-round-same 16 layout number rebuilt (now (a′ .1 .1 .1 .1 .0)) agree) learnt c in
+      (s .0, s .1, s .2, λ i. wholeSamples 16 quantizer (s .2 i) (s .1 i))

@@ -8,8 +8,8 @@ use Rattle.choice.specs.Choice.{modeOf, sadOf}
 use Rattle.intra4.specs.Rules.{samplesOf}
 use Rattle.sides.specs.Choice.{chosen}
 use Rattle.sides.specs.Rules.{predicted}
-use Rattle.residual16.specs.Coded.{sixteenLevels}
-use Rattle.residual16.specs.Rebuilt.{sixteenSamples}
+use Rattle.residual_whole.specs.Coded.{wholeLevels}
+use Rattle.residual_whole.specs.Rebuilt.{wholeSamples}
 use Rattle.record.specs.Records.{recordWhole}
 use Rattle.picture.specs.declared.Layout.{Layout}
 use Rattle.picture.specs.Whole.{wholeOf, withWhole, gatheredRound, wholeTurn}
@@ -33,11 +33,11 @@ module _ (l : Layout) (p q : List ℕ) (m : ℕ) (same : wholeOf 16 l m p ≡ wh
     module _ (qp : ℕ) where
       levels-own16 : levelsFrom16 l qp p m neighbours ≡ levelsFrom16 l qp q m neighbours
       unfolding levelsFrom16
-      levels-own16 = λ i. sixteenLevels qp (same i) (prediction-own16 i)
+      levels-own16 = λ i. wholeLevels 16 qp (same i) (prediction-own16 i)
 
       samples-own16 : samplesFrom16 l qp p m neighbours ≡ samplesFrom16 l qp q m neighbours
       unfolding samplesFrom16
-      samples-own16 = λ i. sixteenSamples qp (prediction-own16 i) (levels-own16 i)
+      samples-own16 = λ i. wholeSamples 16 qp (prediction-own16 i) (levels-own16 i)
 
   module _ (qp : ℕ) (before : List ℕ) where
     pub step-own16 : codedStep16 l qp p m before ≡ codedStep16 l qp q m before

@@ -30,10 +30,11 @@ use Rattle.dc.specs.Dc.{quantizedDc, lumaLevels, lumaScaled, lumaValues}
 use Rattle.block.specs.Block.{residualOf}
 use Rattle.sides.specs.Choice.{chosen}
 use Rattle.sides.specs.Rules.{predicted, permitted}
-use Rattle.residual16.specs.Coded.{residualIn, sixteenDc, sixteenLevels}
-use Rattle.residual16.specs.Rebuilt.{acIn, valuesIn, dcFits, acNumbers, acFits, firstAc}
+use Rattle.residual_whole.specs.Area.{rasterBlock}
+use Rattle.residual_whole.specs.Coded.{residualIn, wholeDc, dcLevels, wholeLevels}
+use Rattle.residual_whole.specs.Rebuilt.{acIn, dcValues, valuesIn, dcFits, acNumbers, acFits, firstAc}
 use Rattle.record.specs.Records.{allLevelsIn}
-use Rattle.picture.specs.Order.{blockTable, blockIn, tablePlace, columnIn, rowIn, blockColumn, blockRow}
+use Rattle.picture.specs.Order.{blockTable, blockIn, tablePlace, columnIn, rowIn}
 use Rattle.picture.specs.Plane.{layoutOf, blockAt}
 use Rattle.picture.specs.Presence.{sameSlice, macroblockPresent}
 use Rattle.picture.specs.Whole.{presentRound, flagsRound}
@@ -50,7 +51,7 @@ abbrev answered : (m : ℕ) → List ℕ → List ℕ
 answered m part = number (chain (contentTests16 (layoutOf 2 2) m part)) ∷ place (chain (contentTests16 (layoutOf 2 2) m part)) ∷ []
 
 pub dc-before-ac : (answered 3 (twoLevels 51 2 63 255 4 176) ≡ 6 ∷ 48 ∷ []) × (answered 3 (twoLevels 51 2 0 0 4 176) ≡ 6 ∷ 51 ∷ [])
-unfolding permitted flagsRound presentRound macroblockPresent sameSlice allLevelsIn grid tab first dcFits valuesIn lumaValues lumaScaled hadamard inPlaces inZigzag scaledBy firstOutside inside firstAc acFits acNumbers acIn rescaled
+unfolding permitted flagsRound presentRound macroblockPresent sameSlice allLevelsIn grid tab first dcFits valuesIn dcValues lumaValues lumaScaled hadamard inPlaces inZigzag scaledBy firstOutside inside firstAc acFits acNumbers acIn rescaled
 dc-before-ac = (refl, refl)
 
 pub mode-before-range : answered 3 (twoLevels 51 4 63 255 4 176) ≡ 3 ∷ 48 ∷ []
@@ -58,12 +59,12 @@ unfolding permitted flagsRound presentRound macroblockPresent sameSlice
 mode-before-range = refl
 
 pub plane-needs-all : (answered 1 (twoLevels 28 3 0 0 0 0) ≡ 3 ∷ 16 ∷ []) × (answered 2 (twoLevels 28 3 0 0 0 0) ≡ 3 ∷ 32 ∷ []) × (answered 3 (twoLevels 28 3 0 0 0 0) ≡ 0 ∷ 0 ∷ [])
-unfolding permitted bitOf flagsRound presentRound macroblockPresent sameSlice allLevelsIn grid tab first dcFits valuesIn lumaValues lumaScaled hadamard inPlaces inZigzag scaledBy firstOutside inside firstAc acFits acNumbers acIn rescaled
+unfolding permitted bitOf flagsRound presentRound macroblockPresent sameSlice allLevelsIn grid tab first dcFits valuesIn dcValues lumaValues lumaScaled hadamard inPlaces inZigzag scaledBy firstOutside inside firstAc acFits acNumbers acIn rescaled
 plane-needs-all = (refl, refl, refl)
 
 -- no neighbour is present
 pub grey-candidate : (modeFrom16 (layoutOf 1 1) (replicate 256 138) 0 (replicate 33 0) ≡ 2)
     × (sadFrom16 (layoutOf 1 1) (replicate 256 138) 0 (replicate 33 0) ≡ 2560)
     × (getD (levelsFrom16 (layoutOf 1 1) 28 (replicate 256 138) 0 (replicate 33 0)) 0 (pos 0) ≡ pos 10)
-unfolding modeFrom16 sadFrom16 levelsFrom16 predictionFrom16 flagsRound presentRound macroblockPresent sameSlice bitOf chosen bestOf fold sad total predicted grid tab blockAt sixteenLevels sixteenDc residualIn residualOf blockColumn blockRow columnIn rowIn tablePlace blockIn blockTable first parts forward quantized inZigzag levelBy lumaLevels quantizedDc hadamard
+unfolding modeFrom16 sadFrom16 levelsFrom16 predictionFrom16 flagsRound presentRound macroblockPresent sameSlice bitOf chosen bestOf fold sad total predicted grid tab blockAt wholeLevels dcLevels wholeDc rasterBlock residualIn residualOf columnIn rowIn tablePlace blockIn blockTable first parts forward quantized inZigzag levelBy lumaLevels quantizedDc hadamard
 grey-candidate = (refl, refl, refl)

@@ -8,8 +8,8 @@ use Rattle.choice.specs.declared.inner.Standing.{Standing}
 use Rattle.intra4.specs.Rules.{samplesOf}
 use Rattle.sides.specs.Choice.{chosen}
 use Rattle.sides.specs.Rules.{predicted}
-use Rattle.residual16.specs.Coded.{sixteenLevels}
-use Rattle.residual16.specs.Rebuilt.{sixteenSamples}
+use Rattle.residual_whole.specs.Coded.{wholeLevels}
+use Rattle.residual_whole.specs.Rebuilt.{wholeSamples}
 use Rattle.record.specs.Records.{recordWhole}
 use Rattle.picture.specs.declared.Layout.{Layout}
 use Rattle.picture.specs.Whole.{wholeOf, gatheredRound, wholeTurn}
@@ -31,11 +31,11 @@ predictionFrom16 l original m neighbours = samplesOf (predicted (roundWhole l m 
 
 -- its levels, "with the luma DC path"
 unfoldable pub levelsFrom16 : Layout → (qp : ℕ) → List ℕ → (m : ℕ) → (neighbours : List ℕ) → List ℤ
-levelsFrom16 l qp original m neighbours = sixteenLevels qp (wholeOf 16 l m original) (predictionFrom16 l original m neighbours)
+levelsFrom16 l qp original m neighbours = wholeLevels 16 qp (wholeOf 16 l m original) (predictionFrom16 l original m neighbours)
 
 -- and the samples that a decoder rebuilds
 unfoldable pub samplesFrom16 : Layout → (qp : ℕ) → List ℕ → (m : ℕ) → (neighbours : List ℕ) → List ℕ
-samplesFrom16 l qp original m neighbours = sixteenSamples qp (predictionFrom16 l original m neighbours) (levelsFrom16 l qp original m neighbours)
+samplesFrom16 l qp original m neighbours = wholeSamples 16 qp (predictionFrom16 l original m neighbours) (levelsFrom16 l qp original m neighbours)
 
 -- ---- of the rebuilt plane as it stood before macroblock m
 

@@ -8,7 +8,7 @@ use Rattle.refusal.specs.declared.Refusal.{Refusal}
 use Rattle.refusal.specs.declared.Refusal.the-variants as refusal
 use Rattle.quantizer.specs.Range.{quantizerTest}
 use Rattle.sides.specs.Rules.{permitted}
-use Rattle.residual16.specs.Rebuilt.{dcFits, firstAc}
+use Rattle.residual_whole.specs.Rebuilt.{dcFits, firstAc}
 use Rattle.record.specs.Kinds.{inWhole}
 use Rattle.record.specs.Records.{qpIn, wholeModeIn, allLevelsIn}
 use Rattle.picture.specs.declared.Layout.{Layout}
@@ -23,5 +23,5 @@ abbrev pub contentTests16 : Layout → (m : ℕ) → List ℕ → List (Test Ref
 contentTests16 l m part =
     quantizerTest (16 * m) (qpIn part)
     ∷ test (permitted (flagsRound 16 l m) (wholeModeIn part)) (refusal.Mode (16 * m))
-    ∷ test (dcFits (qpIn part) (wholeLevelsIn part)) (refusal.Range (16 * m))
-    ∷ scanTest 16 (firstAc (qpIn part) (wholeLevelsIn part)) (λ b. refusal.Range (16 * m + b)) ∷ []
+    ∷ test (dcFits 16 (qpIn part) (wholeLevelsIn part)) (refusal.Range (16 * m))
+    ∷ scanTest 16 (firstAc 16 (qpIn part) (wholeLevelsIn part)) (λ b. refusal.Range (16 * m + b)) ∷ []

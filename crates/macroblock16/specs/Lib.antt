@@ -1,4 +1,3 @@
 pub mod Code
 pub mod Content
-pub mod Missing
 pub mod Rebuild

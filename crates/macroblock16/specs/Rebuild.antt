@@ -5,7 +5,7 @@ use Rattle.intra4.specs.Rules.{samplesOf}
 use Rattle.intra4.specs.Samples.{Round}
 use Rattle.sides.specs.Rules.{predicted}
 use Rattle.sides.specs.Samples.{mask}
-use Rattle.residual16.specs.Rebuilt.{sixteenSamples}
+use Rattle.residual_whole.specs.Rebuilt.{wholeSamples}
 use Rattle.record.specs.Records.{qpIn, wholeModeIn}
 use Rattle.picture.specs.declared.Layout.{Layout}
 use Rattle.picture.specs.Whole.{flagsRound, wholeTurn}
@@ -17,7 +17,7 @@ roundWhole l m neighbours = mask 16 neighbours (flagsRound 16 l m)
 
 -- its samples, of its record and its neighbours
 unfoldable pub wholeFrom : Layout → (part : List ℕ) → (m : ℕ) → (neighbours : List ℕ) → List ℕ
-wholeFrom l part m neighbours = sixteenSamples (qpIn part) (samplesOf (predicted (roundWhole l m neighbours) (wholeModeIn part))) (wholeLevelsIn part)
+wholeFrom l part m neighbours = wholeSamples 16 (qpIn part) (samplesOf (predicted (roundWhole l m neighbours) (wholeModeIn part))) (wholeLevelsIn part)
 
 -- the step of macroblock m by its record: a plane before it, and after its turn
 unfoldable pub rebuiltStep16 : Layout → (m : ℕ) → (part : List ℕ) → (plane : List ℕ) → List ℕ

@@ -7,7 +7,7 @@ ghost use Rattle.lists.specs.Chain.{chain, pass};
 ghost use Rattle.refusal.specs.Number.{said};
 ghost use Rattle.whole.specs.Bounds.{Each};
 ghost use Rattle.quantizer.specs.Range.{highest};
-ghost use Rattle.residual16.specs.Rebuilt.{sixteenSamples, dcFits, firstAc};
+ghost use Rattle.residual_whole.specs.Rebuilt.{wholeSamples, dcFits, firstAc};
 ghost use Rattle.record.specs.Kinds.{inWhole, lengthOf};
 ghost use Rattle.picture.specs.Order.{Among};
 ghost use Rattle.picture.specs.Plane.{planeLength};
@@ -36,10 +36,10 @@ pub fn test_macroblock16(layout: Layout, m: usize, part: &[u8]) -> Answer
     }
     let mut levels = [0i32; 256];
     record::inner::whole_levels(part, &mut levels);
-    if !residual16::inner::dc_fits(quantizer, &levels) {
+    if !residual_whole::inner::dc_fits16(quantizer, &levels) {
         return Answer::Refused(Refusal::Range(16 * m));
     }
-    let block = residual16::inner::first_ac(quantizer, &levels);
+    let block = residual_whole::inner::first_ac(16, quantizer, &levels);
     if block < 16 {
         return Answer::Refused(Refusal::Range(16 * m + block));
     }
@@ -56,11 +56,11 @@ pub fn store_macroblock16(
     plane: &mut [u8],
 )
     requires { ⌜ (Among layout m 0) × (quantizer .qp ≤ highest) × (length (now prediction) ≡ 256) × (length (now levels) ≡ 256) × (length (now plane) ≡ planeLength 16 layout) ⌝ }
-    requires { ⌜ (Each 32768 (now levels)) × (dcFits (quantizer .qp) (now levels) ≡ true) × (firstAc (quantizer .qp) (now levels) ≡ 16) ⌝ }
-    ensures { λ _. ⌜ now (plane .exit) ≡ withWhole 16 layout m (sixteenSamples (quantizer .qp) (now (prediction .entry)) (now (levels .entry))) (now (plane .entry)) ⌝ }
+    requires { ⌜ (Each 32768 (now levels)) × (dcFits 16 (quantizer .qp) (now levels) ≡ true) × (firstAc 16 (quantizer .qp) (now levels) ≡ 16) ⌝ }
+    ensures { λ _. ⌜ now (plane .exit) ≡ withWhole 16 layout m (wholeSamples 16 (quantizer .qp) (now (prediction .entry)) (now (levels .entry))) (now (plane .entry)) ⌝ }
 {
     let mut samples = [0u8; 256];
-    residual16::inner::rebuilt16(quantizer, prediction, levels, &mut samples);
+    residual_whole::inner::rebuilt16(quantizer, prediction, levels, &mut samples);
     picture::inner::store_whole(plane, layout, 16, m, &samples);
 }
 
@@ -104,6 +104,6 @@ pub fn code_candidate16(
     let mut samples = [0u8; 256];
     picture::inner::read_whole(plane, layout, 16, m, &mut samples);
     let best = sides::inner::choose(&neighbours, flags, &samples, prediction);
-    residual16::inner::levels16(quantizer, prediction, &samples, levels);
+    residual_whole::inner::levels16(quantizer, prediction, &samples, levels);
     best
 }

@@ -11,7 +11,7 @@ use lib.ListN.{length}
 use Rattle.lists.proofs.Parts.{length-parts, parts-same}
 use Rattle.lists.proofs.Tab.{tab-same}
 use Rattle.residual.proofs.Order.{length-zigzag}
-use Rattle.record.specs.Kinds.{inFours, lengthOf}
+use Rattle.record.specs.Kinds.{inFours, lengthOf, expectedLuma}
 use Rattle.record.specs.Records.{recordOf, isWhole}
 use Rattle.record.proofs.Back.{Own, length-record, own-record, not-whole}
 use Rattle.picture.specs.declared.Layout.{Layout}
@@ -31,7 +31,7 @@ module _ (l : Layout) (qp : ℕ) (original : List ℕ) where
   unfolding recordFrom4
   length-record-from4 m before = length-record m qp (modesFrom l qp original m before) (blocksFrom l qp original m before) (length-blocks-from m before)
 
-  pub own-record-from4 : (m : ℕ) (before : List ℕ) → Own m (recordFrom4 l qp original m before)
+  pub own-record-from4 : (m : ℕ) (before : List ℕ) → Own (expectedLuma m) (recordFrom4 l qp original m before)
   unfolding recordFrom4
   own-record-from4 m before = own-record m qp (modesFrom l qp original m before) (blocksFrom l qp original m before) (length-blocks-from m before)
 

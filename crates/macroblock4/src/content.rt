@@ -43,7 +43,7 @@ pub(crate) fn rescaled(quantizer: Quantizer, part: &[u8], b: usize) -> [i32; 16]
 }
 
 // The same in the order of the levels.
-fn ordered(quantizer: Quantizer, part: &[u8], b: usize) -> [i32; 16]
+fn rescaled_in_zigzag(quantizer: Quantizer, part: &[u8], b: usize) -> [i32; 16]
     requires { ⌜ (quantizer .qp ≡ qpIn (now part)) × (qpIn (now part) ≤ highest) × (length (now part) ≡ lengthOf inFours) × (b < 16) ⌝ }
     ensures { λ r. ⌜ r ≡ inZigzag (rescaledIn (now (part .entry)) b) ⌝ }
 {
@@ -57,7 +57,7 @@ pub(crate) fn first_range(quantizer: Quantizer, part: &[u8]) -> usize
 {
     let mut place: usize = 16;
     'blocks: for b in 0usize..16 {
-        let numbers = ordered(quantizer, part, b);
+        let numbers = rescaled_in_zigzag(quantizer, part, b);
         for k in 0usize..16 {
             if !whole::inner::inside(numbers[k], -32768, 32767) {
                 place = b;

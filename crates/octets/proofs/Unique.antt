@@ -10,6 +10,10 @@ use Rattle.octets.proofs.inner.write_levels.Kinds as write-levels
 use Rattle.octets.proofs.inner.write_levels.Reads as write-levels-reads
 use Rattle.octets.proofs.inner.level_at.Kinds as level-at
 use Rattle.octets.proofs.inner.level_at.Reads as level-at-reads
+use Rattle.octets.proofs.inner.signed_byte.Kinds as signed-byte
+use Rattle.octets.proofs.inner.signed_byte.Reads as signed-byte-reads
+use Rattle.octets.proofs.inner.signed_in.Kinds as signed-in
+use Rattle.octets.proofs.inner.signed_in.Reads as signed-in-reads
 use Rattle.octets.proofs.inner.packed.Kinds as packed
 use Rattle.octets.proofs.inner.packed.Reads as packed-reads
 use Rattle.octets.proofs.inner.unpack.Kinds as unpack
@@ -27,6 +31,12 @@ write-levels-unique κs a x y e f p q = (refl, p ∙ sym q)
 
 pub level-at-unique : Unique 1 level-at.ps level-at.r level-at-reads.Learnt (Unit {0}) (λ κs e. tt)
 level-at-unique κs a x y e f p q = (p ∙ sym q, refl)
+
+pub signed-byte-unique : Unique 0 signed-byte.ps signed-byte.r signed-byte-reads.Learnt (Unit {0}) (λ κs e. tt)
+signed-byte-unique κs a x y e f p q = (p ∙ sym q, refl)
+
+pub signed-in-unique : Unique 0 signed-in.ps signed-in.r signed-in-reads.Learnt (Unit {0}) (λ κs e. tt)
+signed-in-unique κs a x y e f p q = (p ∙ sym q, refl)
 
 pub packed-unique : Unique 0 packed.ps packed.r packed-reads.Learnt (Unit {0}) (λ κs e. tt)
 packed-unique κs a x y e f p q = (p ∙ sym q, refl)

@@ -1,9 +1,10 @@
--- "Numbers are high byte first"; levels are "signed 16 bits" (01, "Plane and record file"). Assumes nothing.
+-- "Numbers are high byte first"; levels are "signed 16 bits" (01, "Plane and record file"); offsets are "signed bytes" (02, request 05).
+-- Assumes nothing.
 use mathlib.Core.List.{List, [], _∷_, _++_}
 use Prim.Native.Nat.{ℕ, _+_, _*_, _/_, _%_}
 use lib.IntN.{ℤ}
 use lib.ListN.{getD}
-use mir.Syntax.{w16}
+use mir.Syntax.{w8, w16}
 use mir.Val.{ofZ, toZ}
 
 -- a number as two bytes
@@ -22,3 +23,11 @@ levelBytes (z ∷ zs) = bytesOf (ofZ w16 z) ++ levelBytes zs
 -- the level that two bytes from a place on are
 abbrev pub levelAt : ℕ → List ℕ → ℤ
 levelAt place bytes = toZ w16 (numberAt place bytes)
+
+-- a number of eight signed bits as a byte (two's complement)
+abbrev pub signedByte : ℤ → ℕ
+signedByte z = ofZ w8 z
+
+-- and the number that a byte is
+abbrev pub signedIn : ℕ → ℤ
+signedIn byte = toZ w8 byte

@@ -3,10 +3,10 @@ ghost use mathlib.Core.Path.{_≡_};
 ghost use Prim.Native.Nat.{ℕ, _+_, _-_, _*_, _<_, _≤_};
 ghost use lib.IntN.{pos};
 ghost use lib.ListN.{length, take, getD};
-ghost use mir.Syntax.{w16};
+ghost use mir.Syntax.{w8, w16};
 ghost use mir.Val.{ofZ, toZ, SFits};
 ghost use Rattle.octets.specs.Modes.{paired, packed, unpaired};
-ghost use Rattle.octets.specs.Numbers.{numberAt, levelBytes, levelAt};
+ghost use Rattle.octets.specs.Numbers.{numberAt, levelBytes, levelAt, signedByte, signedIn};
 ghost use Rattle.octets.specs.Sum.{recordSum, summed, sumHolds};
 
 // A byte, and that it is one.
@@ -65,6 +65,25 @@ pub fn level_at(part: &[u8], front: usize, i: usize) -> i32
     ensures { λ r. ⌜ r ≡ levelAt (front + 2 * i) (now (part .entry)) ⌝ }
 {
     level_of(number_at(part, front + 2 * i))
+}
+
+// A number of eight signed bits as a byte: the low one of its 16 bits.
+pub fn signed_byte(number: i32) -> u8
+    requires { ⌜ SFits w8 number ⌝ }
+    ensures { λ r. ⌜ r ≡ signedByte number ⌝ }
+{
+    (bits_of(number) % 256) as u8
+}
+
+// The number that a byte of eight signed bits is: a negative one has a high byte of ones above it.
+pub fn signed_in(byte: u8) -> i32
+    ensures { λ r. ⌜ r ≡ signedIn byte ⌝ }
+{
+    if byte < 128 {
+        level_of(wide(byte))
+    } else {
+        level_of(wide(byte) + 65280)
+    }
 }
 
 // Two modes in a byte.

@@ -1,2 +1,2 @@
-// Numbers, levels, modes and sums in bytes (01, "Plane and record file").
+// Numbers, levels, offsets, modes and sums in bytes (01, "Plane and record file").
 pub mod inner;

@@ -1,6 +1,7 @@
 pub mod Alone
 pub mod Around
 pub mod Blocks
+pub mod Both
 pub mod Byte
 pub mod Bytes
 pub mod Macroblocks

@@ -4,7 +4,7 @@
 --     read-stored                  the block that is read there is the one that was stored
 --     length-stored                a plane keeps its length
 --     room-of, room-among          a block of the picture lies in its plane
---     spot-in, block-by, stored-by     the same with places counted from the block's first, as the code takes them
+--     spot-at, spot-in, block-by, stored-by     the same with places counted from the block's first, as the code takes them
 -- Assumes nothing.
 use mathlib.Core.Path.{_≡_, sym, ap, _∙_}
 use mathlib.Core.List.{List}
@@ -89,9 +89,12 @@ samples-fit {l} s = omega (arith, s .high, mul-le-mul-right (l .height) (s .wide
 pub from-first : (s x y i j : ℕ) → (y + j) * s + (x + i) ≡ y * s + x + j * s + i
 from-first s x y i j = omega arith
 
+pub spot-at : {n len s x y : ℕ} → Room n len s x y → (i j : ℕ) → i < n → j < n → y * s + x + j * s + i < len
+spot-at {n} {len} {s} {x} {y} r i j hi hj = rw (from-first s x y i j) at (within r i j hi hj)
+
 module _ {l : Layout} {m b : ℕ} (a : Among l m b) where
   pub spot-in : (i j : ℕ) → i < 4 → j < 4 → blockRow l m b * stride 16 l + blockColumn l m b + j * stride 16 l + i < planeLength 16 l
-  spot-in i j hi hj = rw (from-first (stride 16 l) (blockColumn l m b) (blockRow l m b) i j) at (within (room-among a) i j hi hj)
+  spot-in = spot-at (room-among a)
 
   pub first-in : blockRow l m b * stride 16 l + blockColumn l m b < planeLength 16 l
   first-in = omega (arith, spot-in 0 0 (omega arith) (omega arith))

@@ -3,7 +3,9 @@
 --     round-above, round-left, round-corner     each group of neighbours is present together: by the macroblock's row in its slice and its column
 --     first-above, first-left, first-corner     so are those of its first 4x4 block, which the code asks for
 --     flags-round-by, flags-round-tell     the flags byte: the bit of a neighbour's group says whether the neighbour is present
+--     flags-any-side           it is the same for any side, so one function answers for luma and chroma
 --     length-gathered-round, gathered-round-bytes, gathered-round-missing     the gathered list; where one is missing it says nothing of the plane
+--     gathered-round-same      planes that agree at every neighbour that is present have the same
 --     gathered-round-looks     it follows from the places that the macroblock may see
 --     round-outside            in luma the neighbours are present as document 01 says of the block of 16 by 16
 -- Assumes nothing.
@@ -27,7 +29,7 @@ use Rattle.picture.specs.Order.{countOf, Among, blockTable, tablePlace, 
 use Rattle.picture.specs.Plane.{stride, planeLength, sampleAt}
 use Rattle.picture.specs.Presence.{insidePlane, insidePicture, sliceOf, sameSlice, macroblockPresent, touches, present, neighbourColumn, neighbourRow, presentAt}
 use Rattle.picture.specs.Reach.{rowInSlice}
-use Rattle.picture.specs.Whole.{wholeColumn, wholeRow, roundColumn, roundRow, presentRound, flagsRound, roundSample, gatheredRound}
+use Rattle.picture.specs.Whole.{wholeColumn, wholeRow, roundColumn, roundRow, presentRound, flagsRound, roundSample, gatheredRound, AgreeRound}
 use Rattle.picture.proofs.Byte.{byteBy, bits, among-four, above-is, left-is, corner-is}
 use Rattle.picture.proofs.Macroblocks.{inside-plane, present-first, touch-digits}
 use Rattle.picture.proofs.Owner.{Within}
@@ -35,6 +37,18 @@ use Rattle.picture.proofs.Plane.{Room}
 use Rattle.picture.proofs.Presence.{row-up}
 use Rattle.picture.proofs.Slices.{slice-row, slice-up}
 use Rattle.picture.proofs.Steps.{LooksFrom}
+
+-- ---- planes that agree
+
+pub gathered-round-same : (s : ℕ) (l : Layout) (m : ℕ) (p q : List ℕ) → AgreeRound s l m p q → gatheredRound s l m p ≡ gatheredRound s l m q
+unfolding gatheredRound roundSample
+gathered-round-same s l m p q agree = tab-same (2 * s + 1) _ _ (λ k h. by-case k h (presentRound s l m k) refl)
+  where
+    by-case : (k : ℕ) → k < 2 * s + 1 → (t : Bool) → presentRound s l m k ≡ t
+        → cond t (sampleAt (stride s l) p (roundColumn s l m k - 1) (roundRow s l m k - 1)) 0
+        ≡ cond t (sampleAt (stride s l) q (roundColumn s l m k - 1) (roundRow s l m k - 1)) 0
+    by-case k h false e = refl
+    by-case k h true e = agree k h e
 
 -- ---- the macroblock in the plane
 
@@ -287,18 +301,17 @@ module _ (l : Layout) (some : 0 < l .width) (m : ℕ) (among : m < countOf l) wh
         }
 
     pub gathered-round-looks : LooksFrom s l m (gatheredRound s l m)
-    unfolding gatheredRound roundSample
-    gathered-round-looks p q a = tab-same (2 * s + 1) _ _ (λ k h. by-case k h (presentRound s l m k) refl)
+    gathered-round-looks p q a = gathered-round-same s l m p q agree
       where
-        by-case : (k : ℕ) → k < 2 * s + 1 → (t : Bool) → presentRound s l m k ≡ t
-            → cond t (sampleAt (stride s l) p (roundColumn s l m k - 1) (roundRow s l m k - 1)) 0
-            ≡ cond t (sampleAt (stride s l) q (roundColumn s l m k - 1) (roundRow s l m k - 1)) 0
-        by-case k h false e = refl
-        by-case k h true e =
+        agree : AgreeRound s l m p q
+        agree k h e =
             let f = round-seen k h e in
             let d = digits-lt {q = roundRow s l m k - 1} {m = s * l .height} {r = roundColumn s l m k - 1} {c = s * l .width} (f .row) (f .column) in
             a .agree ((roundRow s l m k - 1) * (s * l .width) + (roundColumn s l m k - 1)) (omega arith)
             (rw (digits-mod (roundRow s l m k - 1) (f .column), digits-div (roundRow s l m k - 1) (f .column)) (f .given, f .touching))
+
+pub flags-any-side : (s other : ℕ) → 0 < s → 0 < other → (l : Layout) → 0 < l .width → 0 < l .rows → (m : ℕ) → m < countOf l → flagsRound s l m ≡ flagsRound other l m
+flags-any-side s other small small′ l some rows m among = flags-round-by l some m among s small rows ∙ sym (flags-round-by l some m among other small′ rows)
 
 module _ (s : ℕ) (l : Layout) (m : ℕ) (plane : List ℕ) where
   pub length-gathered-round : length (gatheredRound s l m plane) ≡ 2 * s + 1

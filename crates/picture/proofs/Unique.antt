@@ -17,6 +17,10 @@ use Rattle.picture.proofs.inner.first_place.Kinds as first-place
 use Rattle.picture.proofs.inner.first_place.Reads as first-place-reads
 use Rattle.picture.proofs.inner.gather.Kinds as gather
 use Rattle.picture.proofs.inner.gather.Reads as gather-reads
+use Rattle.picture.proofs.inner.block_at.Kinds as block-at
+use Rattle.picture.proofs.inner.block_at.Reads as block-at-reads
+use Rattle.picture.proofs.inner.store_at.Kinds as store-at
+use Rattle.picture.proofs.inner.store_at.Reads as store-at-reads
 use Rattle.picture.proofs.inner.read_block.Kinds as read-block
 use Rattle.picture.proofs.inner.read_block.Reads as read-block-reads
 use Rattle.picture.proofs.inner.store_block.Kinds as store-block
@@ -47,6 +51,12 @@ first-place-unique κs a x y e f p q = (p ∙ sym q, refl)
 
 pub gather-unique : Unique 1 gather.ps gather.r gather-reads.Learnt (Unit {0}) (λ κs e. tt)
 gather-unique κs a x y e f p q = (p ∙ sym q, refl)
+
+pub block-at-unique : Unique 1 block-at.ps block-at.r block-at-reads.Learnt (Unit {0}) (λ κs e. tt)
+block-at-unique κs a x y e f p q = (p ∙ sym q, refl)
+
+pub store-at-unique : Unique 1 store-at.ps store-at.r store-at-reads.Learnt (List ℕ) (λ κs e. now (e .0))
+store-at-unique κs a x y e f p q = (refl, p ∙ sym q)
 
 pub read-block-unique : Unique 1 read-block.ps read-block.r read-block-reads.Learnt (Unit {0}) (λ κs e. tt)
 read-block-unique κs a x y e f p q = (p ∙ sym q, refl)

@@ -1,9 +1,10 @@
 -- A macroblock as one block, in a plane where it has s by s samples: 16 by 16 in luma (02, request 01; clause 8.3.3), 8 by 8 in chroma
 -- (clause 8.3.4). Its neighbours are the corner, the s samples above and the s at the left: all of them of other macroblocks, so these alone
 -- decide what is present. Assumes nothing.
-use mathlib.Core.Bool.{Bool, cond, _&&_}
+use mathlib.Core.Path.{_≡_}
+use mathlib.Core.Bool.{Bool, true, cond, _&&_}
 use mathlib.Core.List.{List}
-use Prim.Native.Nat.{ℕ, _+_, _*_, _-_}
+use Prim.Native.Nat.{ℕ, _+_, _*_, _-_, _<_}
 use lib.Dec.{leb}
 use Rattle.lists.specs.Every.{every}
 use Rattle.lists.specs.Tab.{tab}
@@ -48,6 +49,12 @@ roundSample s l m plane k =
 -- all of them
 unfoldable pub gatheredRound : (s : ℕ) → Layout → (m : ℕ) → List ℕ → List ℕ
 gatheredRound s l m plane = tab (2 * s + 1) (roundSample s l m plane)
+
+-- two planes that agree at every neighbour of macroblock m that is present: all that it may go by (01, "Plane and record file"; 02, Req 05:
+-- "Demand 1's rule on missing samples .. hold for the chroma planes too")
+abbrev pub AgreeRound : (s : ℕ) → Layout → (m : ℕ) → (p q : List ℕ) → Type 0
+AgreeRound s l m p q = (k : ℕ) → k < 2 * s + 1 → presentRound s l m k ≡ true
+    → sampleAt (stride s l) p (roundColumn s l m k - 1) (roundRow s l m k - 1) ≡ sampleAt (stride s l) q (roundColumn s l m k - 1) (roundRow s l m k - 1)
 
 -- the macroblock's turn: `make m` makes its s by s samples of its neighbours, which "are rebuilt samples"
 unfoldable pub wholeTurn : (s : ℕ) → (make : ℕ → List ℕ → List ℕ) → Layout → (m : ℕ) → List ℕ → List ℕ

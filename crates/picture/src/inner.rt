@@ -6,7 +6,7 @@ ghost use lib.ListN.{length, getD};
 ghost use Rattle.lists.specs.Stores.{stores};
 ghost use Rattle.lists.specs.Tab.{tab};
 ghost use Rattle.picture.specs.Order.{Among, columnIn, rowIn, blockColumn, blockRow};
-ghost use Rattle.picture.specs.Plane.{layoutOf, stride, planeLength, blockOf, withBlock, gathered};
+ghost use Rattle.picture.specs.Plane.{layoutOf, stride, planeLength, blockAt, stored, blockOf, withBlock, gathered};
 ghost use Rattle.picture.specs.Presence.{presentAt, flagsOf};
 ghost use Rattle.picture.specs.Reach.{Behind, Reaches, rowInSlice, early};
 ghost use Rattle.picture.specs.Whole.{wholeColumn, wholeRow, wholeOf, withWhole, flagsRound, gatheredRound};
@@ -196,21 +196,41 @@ pub fn gather(plane: &[u8], layout: Layout, m: usize, b: usize) -> [u8; 13]
     ]
 }
 
+// The sixteen samples of four rows from column x of row y on, in rows of `stride` samples.
+pub fn block_at(plane: &[u8], stride: usize, x: usize, y: usize) -> [u8; 16]
+    requires { ⌜ (x + 4 ≤ stride) × ((y + 4) * stride ≤ length (now plane)) ⌝ }
+    ensures { λ r. ⌜ r ≡ blockAt 4 stride x y (now (plane .entry)) ⌝ }
+{
+    let at = y * stride + x;
+    let mut out = [0u8; 16];
+    for j in 0..4 {
+        for i in 0..4 {
+            out[4 * j + i] = plane[at + j * stride + i];
+        }
+    }
+    out
+}
+
+// The plane with sixteen samples in those places.
+pub fn store_at(plane: &mut [u8], stride: usize, x: usize, y: usize, block: [u8; 16])
+    requires { ⌜ (x + 4 ≤ stride) × ((y + 4) * stride ≤ length (now plane)) ⌝ }
+    ensures { λ _. ⌜ now (plane .exit) ≡ stored 4 stride x y block (now (plane .entry)) ⌝ }
+{
+    let at = y * stride + x;
+    for k in 0..16 {
+        plane[at + k / 4 * stride + k % 4] = block[k];
+    }
+}
+
 // The sixteen samples of a block, in raster order.
 pub fn read_block(plane: &[u8], layout: Layout, m: usize, b: usize) -> [u8; 16]
     requires { ⌜ Among layout m b ⌝ }
     requires { ⌜ length (now plane) ≡ planeLength 16 layout ⌝ }
     ensures { λ r. ⌜ r ≡ blockOf 4 layout m b (now (plane .entry)) ⌝ }
 {
-    let stride = 16 * layout.width;
-    let at = first_place(layout, m, b);
-    let mut out = [0u8; 16];
-    for y in 0..4 {
-        for x in 0..4 {
-            out[4 * y + x] = plane[at + y * stride + x];
-        }
-    }
-    out
+    let x = column(layout, m, b);
+    let y = row(layout, m, b);
+    block_at(plane, 16 * layout.width, x, y)
 }
 
 // The plane with the sixteen samples of a block in their places.
@@ -219,11 +239,9 @@ pub fn store_block(plane: &mut [u8], layout: Layout, m: usize, b: usize, block: 
     requires { ⌜ length (now plane) ≡ planeLength 16 layout ⌝ }
     ensures { λ _. ⌜ now (plane .exit) ≡ withBlock 4 layout m b block (now (plane .entry)) ⌝ }
 {
-    let stride = 16 * layout.width;
-    let at = first_place(layout, m, b);
-    for k in 0..16 {
-        plane[at + k / 4 * stride + k % 4] = block[k];
-    }
+    let x = column(layout, m, b);
+    let y = row(layout, m, b);
+    store_at(plane, 16 * layout.width, x, y, block);
 }
 
 // ---- a macroblock as one block, in a plane where it has s by s samples

@@ -1,13 +1,14 @@
 -- The file of a coded plane: the head and a record for each macroblock.
---     recordOn, fileTo: own-on, length-to     record m and what stands before it: its form is fine; there is room for it in the area
+--     recordOn, fileTo: own-on, length-to     record m and what stands before it: its form is fine in a mono file; there is room for it in the area
 --     length-file-from, length-coded-file     the file has at most the length that the area lent for it has
 -- Assumes nothing.
+use mathlib.Core.Bool.{false}
 use mathlib.Core.List.{List, _++_}
 use Prim.Native.Nat.{ℕ, zero, suc, _+_, _*_, _≤_}
 use native.Mathlib.Omega.{arith}
 use lib.ListN.{length, length-append}
 use Rattle.lists.specs.Parts.{parts}
-use Rattle.record.specs.Kinds.{inFours, lengthOf}
+use Rattle.record.specs.Kinds.{inFours, lengthOf, expectedIn}
 use Rattle.record.proofs.Back.{Own}
 use Rattle.head.proofs.Back.{length-head}
 use Rattle.picture.specs.declared.Layout.{Layout}
@@ -27,7 +28,8 @@ module _ (l : Layout) (qp : ℕ) (original start : List ℕ) where
   abbrev pub fileTo : ℕ → List ℕ
   fileTo m = headFor l ++ parts m recordOn
 
-  pub own-on : (m : ℕ) → Own m (recordOn m)
+  pub own-on : (m : ℕ) → Own (expectedIn false m) (recordOn m)
+  unfolding expectedIn
   own-on m = own-record-from l qp original m (planeBefore l qp original start m)
 
   pub length-on : (m : ℕ) → length (recordOn m) ≤ lengthOf inFours

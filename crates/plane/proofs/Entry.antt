@@ -2,16 +2,19 @@
 --     plane-short, body-rest                   what is tested behind the head
 --     records-passed                           of the records the form passed, and the content
 --     body-refused, body-done                  what the code leaves behind the head
+--     macroblocks-some                         a size that holds has macroblocks
 --     head-read, head-refused, decodes-by     what a head tells, and the tests behind it
 --     decode-plane-refuses-exactly-if
 -- Assumes nothing.
 use mathlib.Core.Path.{_≡_, sym, ap, _∙_}
 use mathlib.Core.Bool.{true}
-use mathlib.Core.List.{List, _++_}
-use Prim.Native.Nat.{ℕ}
+use mathlib.Core.List.{List}
+use Prim.Native.Nat.{ℕ, _*_, _<_}
+use native.Mathlib.Nat.{mul-le-mul-left}
+use native.Mathlib.Omega.{arith}
 use borrow.Author.Tests.{eq-eqb, ne-eqb}
 use lib.ListN.{length}
-use Rattle.lists.specs.Chain.{Test, Verdict, pass, stop, chain, written, ExactlyIf}
+use Rattle.lists.specs.Chain.{Verdict, pass, stop, chain, written, ExactlyIf}
 use Rattle.lists.proofs.Chain.{chain-passed, chain-refused}
 use Rattle.lists.proofs.Chains.{chain-front, chain-behind}
 use Rattle.refusal.specs.Number.{said}
@@ -30,36 +33,36 @@ use Rattle.picture.specs.declared.Layout.{Layout}
 use Rattle.picture.specs.Order.{Sound}
 use Rattle.picture.specs.Plane.{planeLength}
 use Rattle.plane.specs.Code.{inSlices}
-use Rattle.plane.specs.Decode.{recordIn, formsTests, contentsTests, bodyTests, layoutIn, decodeTests, decoded, decodedPlane, DecodesBody, Decodes}
+use Rattle.plane.specs.Decode.{lumaIn, formsTests, contentsTests, recordsTests, bodyTests, layoutIn, decodeTests, decoded, decodedPlane, DecodesBody, Decodes}
 
 module _ (l : Layout) (place : ℕ) (file plane : List ℕ) where
-  -- the tests of the records, form and then content
-  abbrev pub recordsTests : List (Test Refusal)
-  recordsTests = formsTests l place file ++ contentsTests l (recordIn file place)
-
   pub plane-short : (length plane ≡ planeLength 16 l → ⊥) → chain (bodyTests l place file plane) ≡ stop refusal.Length
   plane-short h = rw (ne-eqb (length plane) (planeLength 16 l) h)
 
-  pub body-rest : length plane ≡ planeLength 16 l → chain (bodyTests l place file plane) ≡ chain recordsTests
+  pub body-rest : length plane ≡ planeLength 16 l → chain (bodyTests l place file plane) ≡ chain (recordsTests l place file)
   body-rest long = rw (eq-eqb (length plane) (planeLength 16 l) long)
 
   -- what rebuilding asks
-  pub records-passed : chain recordsTests ≡ pass → (chain (formsTests l place file) ≡ pass) × (chain (contentsTests l (recordIn file place)) ≡ pass)
-  records-passed e = (chain-front (formsTests l place file) (contentsTests l (recordIn file place)) e, chain-behind (formsTests l place file) (contentsTests l (recordIn file place)) e)
+  pub records-passed : chain (recordsTests l place file) ≡ pass → (chain (formsTests l place file) ≡ pass) × (chain (contentsTests l place file) ≡ pass)
+  records-passed e = (chain-front (formsTests l place file) (contentsTests l place file) e, chain-behind (formsTests l place file) (contentsTests l place file) e)
 
 -- ---- what the code leaves behind the head
 
 module _ (l : Layout) (place : ℕ) (file plane : List ℕ) where
   pub body-refused : {r : Refusal} → chain (bodyTests l place file plane) ≡ stop r → DecodesBody l place file plane (Refused r) plane
-  body-refused e = record { says = sym e; wrote = ap (λ (v : Verdict Refusal). written v (decoded l (recordIn file place)) plane) (sym e) }
+  body-refused e = record { says = sym e; wrote = ap (λ (v : Verdict Refusal). written v (decoded l (lumaIn file place)) plane) (sym e) }
 
-  pub body-done : {after : List ℕ} → chain (bodyTests l place file plane) ≡ pass → after ≡ decoded l (recordIn file place) → DecodesBody l place file plane Done after
-  body-done e q = record { says = sym e; wrote = q ∙ ap (λ (v : Verdict Refusal). written v (decoded l (recordIn file place)) plane) (sym e) }
+  pub body-done : {after : List ℕ} → chain (bodyTests l place file plane) ≡ pass → after ≡ decoded l (lumaIn file place) → DecodesBody l place file plane Done after
+  body-done e q = record { says = sym e; wrote = q ∙ ap (λ (v : Verdict Refusal). written v (decoded l (lumaIn file place)) plane) (sym e) }
 
 -- ---- the head
 
 pub sound-of : (width height rows : ℕ) → sizeHolds width height ≡ true → rowsHold height rows ≡ true → Sound (inSlices width height rows)
 sound-of width height rows e h = let s = sized-of width height e in record { some = s .some; wide = s .wide; high = s .high; rows = rows-of height rows h .0 }
+
+-- a picture has macroblocks
+pub macroblocks-some : (width height : ℕ) → sizeHolds width height ≡ true → 0 < width * height
+macroblocks-some width height e = let s = sized-of width height e in omega (arith, mul-le-mul-left 1 (s .some), mul-le-mul-left width (s .tall), s .some)
 
 -- a head was read, and tells of this picture and of its own length
 pub record LegalHead (file : List ℕ) (l : Layout) (long : ℕ) : Type 0 where

@@ -4,6 +4,7 @@ pub mod CodedOutcome
 pub mod CodedStart
 pub mod Coding
 pub mod Entry
+pub mod OwnFile
 pub mod OwnRecord
 pub mod OwnWitness
 pub mod Rest

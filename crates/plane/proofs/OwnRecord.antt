@@ -1,16 +1,16 @@
 -- Each record carries its own macroblock.
---     SameTo, same-to             two planes that agree in all macroblocks before one, by their blocks, and by their samples
+--     SameTo                      two planes that agree in all macroblocks before one
 --     before-own, same-records      up to it they are rebuilt alike, and they have the same records
 --     own-front                   so their files are the same up to that macroblock's record
 --     own-record-coded            the same by the contract, of two planes that were coded
 -- That record m differs where macroblock m does is a witness by evaluation (OwnWitness).
 -- Assumes nothing.
 use mathlib.Core.Path.{_≡_, sym, ap, _∙_}
+use mathlib.Core.Bool.{false}
 use mathlib.Core.List.{List, _++_}
 use Prim.Native.Nat.{ℕ, _*_, _<_, _≤_}
 use native.Mathlib.Omega.{arith}
 use lib.ListN.{length, take}
-use Rattle.lists.proofs.Alike.{Agree, agree-less}
 use Rattle.lists.proofs.Fold.{fold-follow}
 use Rattle.lists.proofs.Parts.{parts-same, parts-front}
 use Rattle.record.specs.Records.{recordPlace}
@@ -19,8 +19,6 @@ use Rattle.record.proofs.Back.{place-found}
 use Rattle.picture.specs.declared.Layout.{Layout}
 use Rattle.picture.specs.Order.{countOf}
 use Rattle.picture.specs.Plane.{planeLength, blockOf}
-use Rattle.picture.proofs.Owner.{macroblockOwning}
-use Rattle.picture.proofs.Whole.{same-blocks}
 use Rattle.macroblock.specs.Code.{recordFrom, codedStep}
 use Rattle.macroblock.proofs.Own.{step-own, record-own}
 use Rattle.plane.specs.Decode.{cleared}
@@ -33,12 +31,6 @@ use Rattle.plane.proofs.CodedOutcome.{outcome}
 abbrev pub SameTo : Layout → (m : ℕ) → (p q : List ℕ) → Type 0
 SameTo l m p q = (k : ℕ) → k < m → (b : ℕ) → b < 16 → blockOf 4 l k b p ≡ blockOf 4 l k b q
 
--- so it is where all their samples before that macroblock's are the same
-pub same-to : (l : Layout) → 0 < l .width → (m : ℕ) → m ≤ countOf l → (p q : List ℕ) → Agree 0 (planeLength 16 l) (λ i. macroblockOwning 16 l i < m) p q → SameTo l m p q
-same-to l some m hm p q alike k hk b hb =
-    same-blocks l some k (omega arith) p q
-    (agree-less 0 (planeLength 16 l) (λ i. macroblockOwning 16 l i < m) (λ i. macroblockOwning 16 l i ≡ k) (λ i hi own. omega (arith, own)) p q alike) b hb
-
 -- ---- the picture
 
 module _ (l : Layout) (qp : ℕ) (original start : List ℕ) where
@@ -47,7 +39,7 @@ module _ (l : Layout) (qp : ℕ) (original start : List ℕ) where
   unfolding fileFrom
   place-from m h =
       ap (recordPlace m (fileTo l qp original start (countOf l))) (sym (length-head (l .width) (l .height) (l .rows)))
-      ∙ place-found (headFor l) (recordOn l qp original start) (countOf l) (λ k n. own-on l qp original start k) m h
+      ∙ place-found false (headFor l) (recordOn l qp original start) (countOf l) (λ k n. own-on l qp original start k) m h
 
   -- and these are what stands before it
   pub front-from : (m : ℕ) → m ≤ countOf l → take (recordPlace m (fileFrom l qp original start) (behindHead l)) (fileFrom l qp original start) ≡ fileTo l qp original start m

@@ -21,6 +21,7 @@ use Rattle.lists.proofs.Tab.{getD-tab, tab-same}
 use Rattle.octets.specs.Sum.{summed}
 use Rattle.head.specs.Entry.{sizeHolds, rowsHold}
 use Rattle.head.specs.Heads.{oldHead, headOf}
+use Rattle.record.specs.Kinds.{expectedIn}
 use Rattle.record.specs.Records.{numberIn}
 use Rattle.picture.specs.Order.{columnIn, rowIn, blockColumn, blockRow}
 use Rattle.picture.specs.Plane.{blockAt}
@@ -68,6 +69,7 @@ grey-written r file′ rebuilt′ c = ap (λ (p : List ℕ). getD p 0 0) (c .sto
 
 -- of two macroblocks the record of macroblock 0 comes first: its number is 0
 pub first-comes-first : numberIn (recordIn (codedFile (inSlices 2 1 1) 28 (beside 128 138)) (behindHead (inSlices 2 1 1)) 0) ≡ 0
+unfolding expectedIn
 first-comes-first =
     ap numberIn (own-record-in (inSlices 2 1 1) 28 (beside 128 138) (cleared 512) 0 (omega arith)) ∙ own-on (inSlices 2 1 1) 28 (beside 128 138) (cleared 512) 0 .numbered
 

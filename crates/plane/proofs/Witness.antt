@@ -17,12 +17,12 @@ use Rattle.refusal.specs.Number.{number, place}
 use Rattle.refusal.specs.declared.Answer.{Answer}
 use Rattle.head.specs.Entry.{sizeHolds, rowsHold, rowsAt}
 use Rattle.record.specs.Faults.{formOf, walkOf}
-use Rattle.record.specs.Kinds.{kindOf}
+use Rattle.record.specs.Kinds.{kindOf, expectedIn}
 use Rattle.octets.specs.Modes.{packed}
 use Rattle.octets.specs.Numbers.{levelBytes}
 use Rattle.head.specs.Heads.{oldHead, headOf, lengthBy}
 use Rattle.octets.specs.Sum.{summed, sumHolds}
-use Rattle.record.specs.Records.{recordOf, recordWith, lengthIn}
+use Rattle.record.specs.Records.{recordOf, recordWith, lengthIn, colourAt}
 use Rattle.octets.specs.Sum.{sumOf}
 use Rattle.plane.specs.Code.{codePlaneTests}
 use Rattle.plane.specs.Decode.{decodeTests, Decodes}
@@ -50,5 +50,5 @@ abbrev answeredOf : List ℕ → List ℕ
 answeredOf file = number (chain (decodeTests file (replicate 512 7))) ∷ place (chain (decodeTests file (replicate 512 7))) ∷ []
 
 pub forms-before-contents : answeredOf twoRecords ≡ 11 ∷ 535 ∷ []
-unfolding headOf oldHead summed sumOf sumHolds sizeHolds rowsHold rowsAt lengthBy walkOf fold formOf kindOf lengthIn recordOf recordWith packed levelBytes tab
+unfolding headOf oldHead summed sumOf sumHolds sizeHolds rowsHold rowsAt lengthBy walkOf fold formOf kindOf lengthIn recordOf recordWith packed levelBytes tab colourAt expectedIn
 forms-before-contents = refl

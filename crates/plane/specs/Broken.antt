@@ -14,26 +14,35 @@ use Rattle.octets.specs.Sum.{sumHolds}
 use Rattle.head.specs.Entry.{headTests, longAt}
 use Rattle.head.specs.Heads.{isHead}
 use Rattle.record.specs.Faults.{formTests}
-use Rattle.record.specs.Records.{lengthFrom, recordPlace}
+use Rattle.record.specs.Kinds.{expectedIn}
+use Rattle.record.specs.Records.{colourAt, lengthFrom, recordPlace}
+use Rattle.record.specs.declared.Expected.{Expected}
 use Rattle.picture.specs.Order.{countOf}
 use Rattle.picture.specs.Plane.{planeLength}
-use Rattle.plane.specs.Decode.{layoutIn}
+use Rattle.plane.specs.Decode.{lumaNumber, layoutIn}
 
--- where record m begins
-abbrev pub placeIn : List ℕ → (m : ℕ) → ℕ
-placeIn file m = recordPlace m file (longAt file)
+-- where record k begins
+abbrev pub placeIn : List ℕ → (k : ℕ) → ℕ
+placeIn file k = recordPlace k file (longAt file)
+
+-- what is expected there, and how many records there are to be: in a colour file a chroma record "follows every luma record" (02, Req 05)
+abbrev pub expectedOf : List ℕ → (k : ℕ) → Expected
+expectedOf file k = expectedIn (colourAt (longAt file) file) k
+
+abbrev pub recordsOf : List ℕ → ℕ
+recordsOf file = lumaNumber file (longAt file) (countOf (layoutIn file))
 
 -- the head and the plane's length are fine, and so are the first n records
 pub record FineTo (file before : List ℕ) (n : ℕ) : Type 0 where
   pub head : chain (headTests file) ≡ pass
   pub plane : length before ≡ planeLength 16 (layoutIn file)
-  pub fine : (k : ℕ) → k < n → chain (formTests k (drop (placeIn file k) file)) ≡ pass
+  pub fine : (k : ℕ) → k < n → chain (formTests (expectedOf file k) (drop (placeIn file k) file)) ≡ pass
 
 -- record m is the first that is not, and this is the first field of it that is not
 pub record FirstBroken (file before : List ℕ) (fault : Fault) (m : ℕ) : Type 0 where
   pub before-it : FineTo file before m
-  pub among : m < countOf (layoutIn file)
-  pub faulty : chain (formTests m (drop (placeIn file m) file)) ≡ stop fault
+  pub among : m < recordsOf file
+  pub faulty : chain (formTests (expectedOf file m) (drop (placeIn file m) file)) ≡ stop fault
 
 -- 11: the head's mark, at 0, or a record's, at its first byte
 pub data MarkRefused (file before : List ℕ) (place : ℕ) : Type 0 where
@@ -59,5 +68,5 @@ pub data FormRefused (file before : List ℕ) (place : ℕ) : Type 0 where
   mark-cut : (m : ℕ) → FirstBroken file before CutMark m → place ≡ length file → FormRefused file before place
   rest-cut : (m : ℕ) → FirstBroken file before CutRest m → place ≡ length file → FormRefused file before place
   left-over :
-      FineTo file before (countOf (layoutIn file)) → placeIn file (countOf (layoutIn file)) < length file → place ≡ length file
+      FineTo file before (recordsOf file) → placeIn file (recordsOf file) < length file → place ≡ length file
       → FormRefused file before place

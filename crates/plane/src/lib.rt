@@ -1,11 +1,7 @@
 // A luma plane into its record file, and from it (01, "Plane and record file").
-ghost use mathlib.Core.Path.{_≡_};
-ghost use mathlib.Core.List.{_++_};
-ghost use Rattle.lists.specs.Chain.{chain};
-ghost use Rattle.refusal.specs.Number.{said};
 ghost use Rattle.picture.specs.Order.{Sound};
 ghost use Rattle.plane.specs.Code.{CodesPlane};
-ghost use Rattle.plane.specs.Decode.{formsTests, contentsTests, recordIn, DecodesBody, Decodes};
+ghost use Rattle.plane.specs.Decode.{DecodesBody, Decodes};
 use head::Head;
 use picture::Layout;
 use quantizer::Built;
@@ -15,7 +11,7 @@ use refusal::Refusal;
 
 mod code;
 mod content;
-mod rebuild;
+pub mod inner;
 
 // The answer where a plane is coded: how many bytes of the file area were used.
 pub enum CodedPlane {
@@ -23,15 +19,11 @@ pub enum CodedPlane {
     Refused(Refusal),
 }
 
-// The form of all records of a file from a place on, and then their content.
-fn tested(layout: Layout, place: usize, file: &[u8]) -> Answer
-    requires { ⌜ Sound layout ⌝ }
-    ensures { λ r. ⌜ said r ≡ chain (formsTests layout place (now (file .entry)) ++ contentsTests layout (recordIn (now (file .entry)) place)) ⌝ }
-{
-    match record::inner::walked(file, place, layout.width * layout.height) {
-        Answer::Refused(refusal) => Answer::Refused(refusal),
-        Answer::Done => content::contents(layout, place, file),
-    }
+// What a macroblock of a colour file has behind its luma record: its chroma record begins at a place and ends before another; and luma's QP.
+pub struct Behind {
+    pub qp: u8,
+    pub place: usize,
+    pub end: usize,
 }
 
 // The plane of a file whose head tells of this picture and ends at a place: nothing is written before the last test.
@@ -43,11 +35,11 @@ fn decode(layout: Layout, place: usize, file: &[u8], plane: &mut [u8]) -> Answer
     if plane.len() != 256 * count {
         return Answer::Refused(Refusal::Length);
     }
-    match tested(layout, place, file) {
+    match inner::test_file(layout, place, file) {
         Answer::Refused(refusal) => Answer::Refused(refusal),
         Answer::Done => {
-            rebuild::clear(plane);
-            rebuild::rebuild_plane(layout, place, file, plane);
+            inner::clear(plane);
+            inner::rebuild_plane(layout, place, file, plane);
             Answer::Done
         }
     }
@@ -106,7 +98,7 @@ pub fn code_plane(
     match Quantizer::new(qp) {
         Built::Refused(refusal) => CodedPlane::Refused(refusal),
         Built::Legal(quantizer) => {
-            rebuild::clear(rebuilt);
+            inner::clear(rebuilt);
             CodedPlane::Bytes(code::code_file(layout, quantizer, plane, file, rebuilt))
         }
     }

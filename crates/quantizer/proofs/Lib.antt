@@ -1,4 +1,5 @@
 pub mod Chroma
+pub mod Offsets
 pub mod Range
 pub mod Tables
 pub mod Unique

@@ -1,5 +1,5 @@
--- The records of the file (01, "Plane and record file"; 02, request 01). Assumes nothing.
-use mathlib.Core.Bool.{Bool, cond}
+-- The records of the file (01, "Plane and record file"; 02, requests 01 and 05). Assumes nothing.
+use mathlib.Core.Bool.{Bool, false, cond}
 use mathlib.Core.List.{List, [], _∷_, _++_}
 use Prim.Native.Nat.{ℕ, _+_, _*_, _/_}
 use lib.Dec.{eqb, leb}
@@ -7,9 +7,9 @@ use lib.IntN.{ℤ}
 use lib.ListN.{length, take, drop, getD}
 use Rattle.lists.specs.Fold.{fold}
 use Rattle.lists.specs.Tab.{tab}
-use Rattle.record.specs.Kinds.{inFours, inWhole, recordLength}
+use Rattle.record.specs.Kinds.{inFours, inWhole, inChroma, recordLength}
 use Rattle.octets.specs.Modes.{packed, unpaired}
-use Rattle.octets.specs.Numbers.{bytesOf, numberAt, levelBytes, levelAt}
+use Rattle.octets.specs.Numbers.{bytesOf, numberAt, levelBytes, levelAt, signedByte, signedIn}
 use Rattle.octets.specs.Sum.{summed}
 use Rattle.record.specs.declared.Kind.{Kind}
 
@@ -37,6 +37,11 @@ recordOf number qp modes levels = recordWith inFours number (qp ∷ packed 8 mod
 unfoldable pub recordWhole : (number qp mode : ℕ) → List ℤ → List ℕ
 recordWhole number qp mode levels = recordWith inWhole number (qp ∷ mode ∷ []) levels
 
+-- "A chroma record, 265 bytes, mark 4D 43, .. with number, both offsets (signed bytes), mode, 64 levels of Cb then of Cr .., sum" (02,
+-- request 05)
+unfoldable pub recordChroma : (number : ℕ) → (cb cr : ℤ) → (mode : ℕ) → List ℤ → List ℕ
+recordChroma number cb cr mode levels = recordWith inChroma number (signedByte cb ∷ signedByte cr ∷ mode ∷ []) levels
+
 -- what a macroblock's record says, of whatever kind
 abbrev pub numberIn : List ℕ → ℕ
 numberIn bytes = numberAt 2 bytes
@@ -44,7 +49,7 @@ numberIn bytes = numberAt 2 bytes
 abbrev pub qpIn : List ℕ → ℕ
 qpIn bytes = getD bytes 4 0
 
--- of which of the two kinds it is, where it is of one
+-- of which of the two luma kinds it is, where it is of one
 abbrev pub isWhole : List ℕ → Bool
 isWhole bytes = eqb (numberAt 0 bytes) (inWhole .mark)
 
@@ -64,6 +69,16 @@ levelIn block k bytes = levelWith inFours (16 * block + k) bytes
 unfoldable pub levelsIn : ℕ → List ℕ → List ℤ
 levelsIn block bytes = tab 16 (λ k. levelIn block k bytes)
 
+-- of the chroma kind alone: both offsets and the mode
+abbrev pub cbOffsetIn : List ℕ → ℤ
+cbOffsetIn bytes = signedIn (getD bytes 4 0)
+
+abbrev pub crOffsetIn : List ℕ → ℤ
+crOffsetIn bytes = signedIn (getD bytes 5 0)
+
+abbrev pub chromaModeIn : List ℕ → ℕ
+chromaModeIn bytes = getD bytes 6 0
+
 -- how long the record is that these bytes begin with, by its mark; 0 where there is no mark or an unknown one
 unfoldable pub lengthIn : List ℕ → ℕ
 lengthIn bytes = cond (leb 2 (length bytes)) (recordLength (numberAt 0 bytes)) 0
@@ -82,3 +97,12 @@ recordAt place file = firstIn (drop place file)
 -- where record m begins, if record 0 begins at a place: each says by its mark how long it is
 unfoldable pub recordPlace : ℕ → List ℕ → ℕ → ℕ
 recordPlace m file start = fold m (λ k place. place + lengthFrom place file) start
+
+-- these bytes begin with the mark of a chroma record
+abbrev pub chromaNext : List ℕ → Bool
+chromaNext bytes = cond (leb 2 (length bytes)) (eqb (numberAt 0 bytes) (inChroma .mark)) false
+
+-- "The file is colour exactly if its first macroblock has one": a chroma record stands behind the first record, which begins at a place (02,
+-- request 05)
+unfoldable pub colourAt : (place : ℕ) → List ℕ → Bool
+colourAt place file = chromaNext (drop (place + lengthFrom place file) file)

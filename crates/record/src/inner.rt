@@ -4,12 +4,13 @@ ghost use mathlib.Core.Path.{_≡_};
 ghost use Prim.Native.Nat.{ℕ, _+_, _-_, _*_, _<_};
 ghost use lib.IntN.{pos};
 ghost use lib.ListN.{length, drop, getD};
-ghost use mir.Syntax.{w16};
+ghost use mir.Syntax.{w8, w16};
 ghost use mir.Val.{SFits};
 ghost use Rattle.refusal.specs.Number.{said};
 ghost use Rattle.record.specs.Faults.{formOf, walkOf, walkSaid};
-ghost use Rattle.record.specs.Kinds.{lengthOf, inFours, inWhole, recordLength};
-ghost use Rattle.record.specs.Records.{frontWith, recordWith, recordOf, recordWhole, allLevelsIn, qpIn, isWhole, wholeModeIn, modeIn, levelIn, levelsIn, lengthFrom};
+ghost use Rattle.record.specs.Kinds.{lengthOf, inFours, inWhole, inChroma, kindOf, recordLength, asExpected, expectedIn};
+ghost use Rattle.record.specs.Records.{frontWith, recordWith, recordOf, recordWhole, recordChroma, allLevelsIn, qpIn, isWhole, wholeModeIn, modeIn, levelIn, levelsIn, cbOffsetIn, crOffsetIn, chromaModeIn, lengthFrom, colourAt};
+use crate::Expected;
 use crate::Form;
 use crate::Kind;
 use crate::Walk;
@@ -29,6 +30,13 @@ const WHOLE: Kind = Kind {
     mark: 77 * 256 + 54,
     front: 5 + 1,
     levels: 256,
+};
+
+// A chroma record: 4D 43; four bytes, both offsets and the mode; 64 levels of Cb and 64 of Cr.
+const CHROMA: Kind = Kind {
+    mark: 77 * 256 + 67,
+    front: 4 + 3,
+    levels: 128,
 };
 
 // ---- lengths
@@ -55,31 +63,38 @@ pub fn whole_length() -> usize
     length_of(WHOLE)
 }
 
+// How long a chroma record is.
+pub fn chroma_length() -> usize
+    ensures { λ r. ⌜ r ≡ lengthOf inChroma ⌝ }
+{
+    length_of(CHROMA)
+}
+
 // ---- writing
 
-// What stands before the levels of a record of a kind, into its own bytes: mark, number, QP, and what this kind has besides.
-fn write_front(kind: Kind, number: u16, qp: u8, more: &[u8], front: &mut [u8])
+// What stands before the levels of a record of a kind, into its own bytes: mark, number, the byte next to it, and what this kind has besides.
+fn write_front(kind: Kind, number: u16, next: u8, more: &[u8], front: &mut [u8])
     requires { ⌜ (length (now front) ≡ kind .front) × (5 + length (now more) ≡ kind .front) ⌝ }
-    ensures { λ _. ⌜ now (front .exit) ≡ frontWith kind number (qp ∷ now (more .entry)) ⌝ }
+    ensures { λ _. ⌜ now (front .exit) ≡ frontWith kind number (next ∷ now (more .entry)) ⌝ }
 {
     let mark = kind.mark;
     front[0] = (mark / 256) as u8;
     front[1] = (mark % 256) as u8;
     front[2] = (number / 256) as u8;
     front[3] = (number % 256) as u8;
-    front[4] = qp;
+    front[4] = next;
     bytes::copy(more, &mut front[5..]);
 }
 
 // A record of a kind: front, levels, sum.
-fn write_record(kind: Kind, number: u16, qp: u8, more: &[u8], levels: &[i32], part: &mut [u8])
+fn write_record(kind: Kind, number: u16, next: u8, more: &[u8], levels: &[i32], part: &mut [u8])
     requires { ⌜ (length (now part) ≡ lengthOf kind) × (5 + length (now more) ≡ kind .front) ⌝ }
     requires { ⌜ (length (now levels) ≡ kind .levels) × ((k : ℕ) → SFits w16 (getD (now levels) k (pos 0))) ⌝ }
-    ensures { λ _. ⌜ now (part .exit) ≡ recordWith kind number (qp ∷ now (more .entry)) (now (levels .entry)) ⌝ }
+    ensures { λ _. ⌜ now (part .exit) ≡ recordWith kind number (next ∷ now (more .entry)) (now (levels .entry)) ⌝ }
 {
     let front = kind.front;
     let end = front + 2 * kind.levels;
-    write_front(kind, number, qp, more, &mut part[0..front]);
+    write_front(kind, number, next, more, &mut part[0..front]);
     octets::inner::write_levels(levels, &mut part[front..end]);
     octets::inner::write_sum(part);
 }
@@ -102,6 +117,17 @@ pub fn write_whole(number: u16, qp: u8, mode: u8, levels: &[i32], part: &mut [u8
 {
     let more = [mode];
     write_record(WHOLE, number, qp, &more, levels, part);
+}
+
+// A chroma record, with Cb's offset and Cr's.
+pub fn write_chroma(number: u16, cb: i32, cr: i32, mode: u8, levels: &[i32], part: &mut [u8])
+    requires { ⌜ (length (now part) ≡ lengthOf inChroma) × SFits w8 cb × SFits w8 cr ⌝ }
+    requires { ⌜ (length (now levels) ≡ inChroma .levels) × ((k : ℕ) → SFits w16 (getD (now levels) k (pos 0))) ⌝ }
+    ensures { λ _. ⌜ now (part .exit) ≡ recordChroma number cb cr mode (now (levels .entry)) ⌝ }
+{
+    let next = octets::inner::signed_byte(cb);
+    let more = [octets::inner::signed_byte(cr), mode];
+    write_record(CHROMA, number, next, &more, levels, part);
 }
 
 // ---- reading
@@ -157,14 +183,55 @@ pub fn block_levels(part: &[u8], block: usize) -> [i32; 16]
     levels
 }
 
+// All levels of a record of a kind.
+fn all_levels(kind: Kind, part: &[u8], out: &mut [i32])
+    requires { ⌜ (length (now part) ≡ lengthOf kind) × (length (now out) ≡ kind .levels) ⌝ }
+    ensures { λ _. ⌜ now (out .exit) ≡ allLevelsIn kind (now (part .entry)) ⌝ }
+{
+    let front = kind.front;
+    for i in 0usize..kind.levels {
+        out[i] = octets::inner::level_at(part, front, i);
+    }
+}
+
 // All levels of a record of 16x16: DC, then AC.
 pub fn whole_levels(part: &[u8], out: &mut [i32])
     requires { ⌜ (length (now part) ≡ lengthOf inWhole) × (length (now out) ≡ inWhole .levels) ⌝ }
     ensures { λ _. ⌜ now (out .exit) ≡ allLevelsIn inWhole (now (part .entry)) ⌝ }
 {
-    for i in 0usize..WHOLE.levels {
-        out[i] = octets::inner::level_at(part, WHOLE.front, i);
-    }
+    all_levels(WHOLE, part, out);
+}
+
+// All levels of a chroma record: those of Cb, then those of Cr.
+pub fn both_levels(part: &[u8], out: &mut [i32])
+    requires { ⌜ (length (now part) ≡ lengthOf inChroma) × (length (now out) ≡ inChroma .levels) ⌝ }
+    ensures { λ _. ⌜ now (out .exit) ≡ allLevelsIn inChroma (now (part .entry)) ⌝ }
+{
+    all_levels(CHROMA, part, out);
+}
+
+// Cb's offset, of a chroma record.
+pub fn cb_offset(part: &[u8]) -> i32
+    requires { ⌜ 4 < length (now part) ⌝ }
+    ensures { λ r. ⌜ r ≡ cbOffsetIn (now (part .entry)) ⌝ }
+{
+    octets::inner::signed_in(part[4])
+}
+
+// And Cr's.
+pub fn cr_offset(part: &[u8]) -> i32
+    requires { ⌜ 5 < length (now part) ⌝ }
+    ensures { λ r. ⌜ r ≡ crOffsetIn (now (part .entry)) ⌝ }
+{
+    octets::inner::signed_in(part[5])
+}
+
+// The mode of a chroma record.
+pub fn chroma_mode(part: &[u8]) -> u8
+    requires { ⌜ 6 < length (now part) ⌝ }
+    ensures { λ r. ⌜ r ≡ chromaModeIn (now (part .entry)) ⌝ }
+{
+    part[6]
 }
 
 // ---- faults
@@ -179,7 +246,23 @@ fn record_length(mark: u16) -> usize
     if mark == WHOLE.mark {
         return whole_length();
     }
+    if mark == CHROMA.mark {
+        return chroma_length();
+    }
     0
+}
+
+// Whether a mark is as expected: a chroma record's where one is to stand, and elsewhere another kind's.
+fn is_expected(chroma: bool, mark: u16) -> bool
+    ensures { λ r. ⌜ r ≡ asExpected chroma (kindOf mark) ⌝ }
+{
+    if mark == CHROMA.mark {
+        return chroma;
+    }
+    if record_length(mark) < 1 {
+        return false;
+    }
+    !chroma
 }
 
 // How many bytes are left from a place on.
@@ -202,22 +285,34 @@ pub fn length_from(file: &[u8], place: usize) -> usize
     record_length(octets::inner::number_at(file, place))
 }
 
-// The form of the record that begins at a place and is to have a number.
-fn form(file: &[u8], place: usize, number: usize) -> Form
-    ensures { λ r. ⌜ r ≡ formOf number (drop place (now (file .entry))) ⌝ }
+// Whether a chroma record's mark stands behind the record that begins at a place.
+pub fn colour_from(file: &[u8], place: usize) -> bool
+    ensures { λ r. ⌜ r ≡ colourAt place (now (file .entry)) ⌝ }
+{
+    let long = length_from(file, place);
+    if left(file, place) < long + 2 {
+        return false;
+    }
+    octets::inner::number_at(file, place + long) == CHROMA.mark
+}
+
+// The form of the record that begins at a place, where this one is expected.
+fn form(file: &[u8], place: usize, expected: Expected) -> Form
+    ensures { λ r. ⌜ r ≡ formOf expected (drop place (now (file .entry))) ⌝ }
 {
     let rest = left(file, place);
     if rest < 2 {
         return Form::Faulty(Fault::CutMark);
     }
-    let long = record_length(octets::inner::number_at(file, place));
-    if long < 1 {
+    let mark = octets::inner::number_at(file, place);
+    if !is_expected(expected.chroma, mark) {
         return Form::Faulty(Fault::Mark);
     }
+    let long = record_length(mark);
     if rest < long {
         return Form::Faulty(Fault::CutRest);
     }
-    if (octets::inner::number_at(file, place + 2) as usize) != number {
+    if (octets::inner::number_at(file, place + 2) as usize) != expected.number {
         return Form::Faulty(Fault::Number);
     }
     if !octets::inner::sum_holds(&file[place..place + long]) {
@@ -226,13 +321,30 @@ fn form(file: &[u8], place: usize, number: usize) -> Form
     Form::Fine(long)
 }
 
+// What is expected as record k of a mono or of a colour file.
+fn expected_in(colour: bool, k: usize) -> Expected
+    ensures { λ r. ⌜ r ≡ expectedIn colour k ⌝ }
+{
+    if colour {
+        Expected {
+            chroma: k % 2 == 1,
+            number: k / 2,
+        }
+    } else {
+        Expected {
+            chroma: false,
+            number: k,
+        }
+    }
+}
+
 // The walk over the records 0, 1, .. of a file from a place on.
-fn walk(file: &[u8], start: usize, count: usize) -> Walk
-    ensures { λ r. ⌜ r ≡ walkOf count (now (file .entry)) start ⌝ }
+fn walk(file: &[u8], start: usize, count: usize, colour: bool) -> Walk
+    ensures { λ r. ⌜ r ≡ walkOf colour count (now (file .entry)) start ⌝ }
 {
     let mut place = start;
-    for number in 0usize..count {
-        match form(file, place, number) {
+    for k in 0usize..count {
+        match form(file, place, expected_in(colour, k)) {
             Form::Faulty(fault) => {
                 return Walk::Broken(fault, place);
             }
@@ -245,10 +357,10 @@ fn walk(file: &[u8], start: usize, count: usize) -> Walk
 }
 
 // What the form of a file's records sends back: the first fault, or that bytes are left behind the last record.
-pub fn walked(file: &[u8], start: usize, count: usize) -> Answer
-    ensures { λ r. ⌜ said r ≡ walkSaid (now (file .entry)) (walkOf count (now (file .entry)) start) ⌝ }
+pub fn walked(file: &[u8], start: usize, count: usize, colour: bool) -> Answer
+    ensures { λ r. ⌜ said r ≡ walkSaid (now (file .entry)) (walkOf colour count (now (file .entry)) start) ⌝ }
 {
-    match walk(file, start, count) {
+    match walk(file, start, count, colour) {
         Walk::Broken(fault, place) => {
             let long = length_from(file, place);
             Answer::Refused(refusal::inner::of_fault(fault, place, long, file.len()))

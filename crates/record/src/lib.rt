@@ -1,4 +1,4 @@
-// The records behind the head of a file: macroblock records, the faults of their form, and the walk over them (01, "Plane and record file").
+// The records behind the head of a file: macroblock records, luma and chroma, the faults of their form, and the walk over them (01, "Plane and record file").
 use refusal::Fault;
 
 pub mod inner;
@@ -8,6 +8,12 @@ pub struct Kind {
     pub mark: u16,
     pub front: usize,
     pub levels: usize,
+}
+
+// What is expected where a record begins: whether a chroma record, and which number.
+pub struct Expected {
+    pub chroma: bool,
+    pub number: usize,
 }
 
 // The answer to the test of one record's form: its length where it is fine.

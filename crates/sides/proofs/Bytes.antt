@@ -1,4 +1,5 @@
 -- Neighbours that are bytes predict bytes, 256 of them in every permitted mode, and the chosen mode is a permitted one.
+--     plane-keeps, mask-bytes                      a plane's samples are bytes, and what the mask leaves of bytes; over n
 --     predicted-bytes, predicted-long              of every mode: its samples are bytes; where the flags permit it they are 256
 --     best-bytes, chosen-long, chosen-low          of the best: its samples are bytes; of the chosen: they are 256, and its SAD has 16 bits
 --     picks-permitted, picks-bytes, picks-long, picks-low     the same of what a choice answers and leaves
@@ -36,7 +37,7 @@ use Rattle.sides.proofs.Least.{chosen-least, permitted-cost, chosen-mod
 byte-clip : (z : ℤ) → clip 255 z < 256
 byte-clip z = omega (arith, clip-le 255 z)
 
-plane-keeps : (n : ℕ) → KeepsBoth (plane n)
+pub plane-keeps : (n : ℕ) → KeepsBoth (plane n)
 unfolding plane slanted
 plane-keeps n T S t s x y = byte-clip _
 
@@ -48,7 +49,7 @@ mode-bytes r b (suc (suc zero)) = bytes-grid 16 _ (λ x y. mean-byte 16 (omega a
 mode-bytes r b (suc (suc (suc zero))) = three-of r b 16 (plane 16) (plane-keeps 16)
 mode-bytes r b (suc (suc (suc (suc m)))) = bytes-none
 
-mask-bytes : (n : ℕ) (l : List ℕ) (f : ℕ) → Bytes l → RoundBytes (mask n l f)
+pub mask-bytes : (n : ℕ) (l : List ℕ) (f : ℕ) → Bytes l → RoundBytes (mask n l f)
 mask-bytes n l f b = masked-bytes f (bytes-take n _ (bytes-drop 1 l b)) (bytes-take n _ (bytes-drop (n + 1) l b)) (bytes-take 1 l b)
 
 length-filled : (above left corner : List ℕ) (f m : ℕ) → m < 4 → length (filled above left corner f m) ≡ 256

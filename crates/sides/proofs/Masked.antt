@@ -2,6 +2,7 @@
 --     predicted-is     a permitted mode's samples are those of the sides; another mode has none
 --     none-exactly-if  a mode has no prediction exactly if the flags do not permit it
 --     mode-below-4     what is permitted has a number below 4
+--     plane-filled     a plane by the corner as the code reads it; over n
 --     vertical-is, horizontal-is, dc-is, plane-is     the same for what the code has filled, mode by mode
 -- Assumes nothing.
 use mathlib.Core.Path.{_≡_, refl, ap, _∙_}
@@ -50,17 +51,23 @@ corner-is : (l : List ℕ) → 1 ≤ length l → getD l 0 0 ∷ [] ≡ cornerOf
 corner-is [] h = absurd (omega arith)
 corner-is (a ∷ l) h = refl
 
+-- k is n, of which the code knows no literal
+pub plane-filled : {n k : ℕ} (l : List ℕ) {out : List ℕ} → 1 ≤ length l → k ≡ n
+    → out ≡ grid k (plane k (rowOf (getD l 0 0 ∷ []) (aboveOf n l)) (rowOf (getD l 0 0 ∷ []) (leftOf n l)))
+    → out ≡ grid n (plane n (rowOf (cornerOf l) (aboveOf n l)) (rowOf (cornerOf l) (leftOf n l)))
+plane-filled {n} l some e h = let c = corner-is l some in h ∙ (λ i. grid (e i) (plane (e i) (rowOf (c i) (aboveOf n l)) (rowOf (c i) (leftOf n l))))
+
 module _ (l : List ℕ) (f m : ℕ) (p : permitted f m ≡ true) {out : List ℕ} where
   is : out ≡ filled (aboveOf 16 l) (leftOf 16 l) (cornerOf l) f m → out ≡ samplesOf (predicted (mask 16 l f) m)
   is e = e ∙ samples-by (permitted f m) _ (predicted-is l f m) p
 
-  pub vertical-is : {row : List ℕ} → m ≡ 0 → row ≡ aboveOf 16 l → out ≡ grid 16 (vertical (rowOf [] row)) → out ≡ samplesOf (predicted (mask 16 l f) m)
+  pub vertical-is : m ≡ 0 → out ≡ grid 16 (vertical (rowOf [] (aboveOf 16 l))) → out ≡ samplesOf (predicted (mask 16 l f) m)
   unfolding filled
-  vertical-is k e h = is (rw k (h ∙ ap (λ (r : List ℕ). grid 16 (vertical (rowOf [] r))) e))
+  vertical-is k h = is (rw k h)
 
-  pub horizontal-is : {column : List ℕ} → m ≡ 1 → column ≡ leftOf 16 l → out ≡ grid 16 (horizontal (rowOf [] column)) → out ≡ samplesOf (predicted (mask 16 l f) m)
+  pub horizontal-is : m ≡ 1 → out ≡ grid 16 (horizontal (rowOf [] (leftOf 16 l))) → out ≡ samplesOf (predicted (mask 16 l f) m)
   unfolding filled
-  horizontal-is k e h = is (rw k (h ∙ ap (λ (r : List ℕ). grid 16 (horizontal (rowOf [] r))) e))
+  horizontal-is k h = is (rw k h)
 
   pub dc-is : {first second : Bool} {v : ℕ} → m ≡ 2 → first ≡ bitOf f 0 → second ≡ bitOf f 1 → v ≡ mean 16 (sideIf first (aboveOf 16 l)) (sideIf second (leftOf 16 l))
       → out ≡ tab 256 (λ k. v) → out ≡ samplesOf (predicted (mask 16 l f) m)
@@ -72,6 +79,4 @@ module _ (l : List ℕ) (f m : ℕ) (p : permitted f m ≡ true) {out : List ℕ
   pub plane-is : {n : ℕ} → m ≡ 3 → 1 ≤ length l → n ≡ 16
       → out ≡ grid n (plane n (rowOf (getD l 0 0 ∷ []) (aboveOf 16 l)) (rowOf (getD l 0 0 ∷ []) (leftOf 16 l))) → out ≡ samplesOf (predicted (mask 16 l f) m)
   unfolding filled
-  plane-is k some e h =
-      let c = corner-is l some in
-      is (rw k (h ∙ (λ i. grid (e i) (plane (e i) (rowOf (c i) (aboveOf 16 l)) (rowOf (c i) (leftOf 16 l))))))
+  plane-is k some e h = is (rw k (plane-filled l some e h))

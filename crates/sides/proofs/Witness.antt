@@ -8,7 +8,7 @@ use Rattle.lists.specs.Tab.{tab, grid}
 use Rattle.lists.specs.Total.{total}
 use Rattle.whole.specs.Clip.{clip}
 use Rattle.intra4.specs.Samples.{bitOf}
-use Rattle.intra4.specs.Rules.{samples, none, three}
+use Rattle.intra4.specs.Rules.{samples, none}
 use Rattle.sides.specs.Samples.{mask}
 use Rattle.sides.specs.Plane.{slope, gain, tilt, slanted, plane}
 use Rattle.sides.specs.Rules.{predicted}
@@ -80,36 +80,3 @@ pub steep-plane : predicted (mask 16 steep 7) 3
     ∷ [])
 unfolding predicted bitOf grid tab steep plane slanted tilt gain slope clip
 steep-plane = refl
-
--- the same at 8 by 8
-pub gentle-eight : List ℕ
-gentle-eight = 100 ∷ 101 ∷ 99 ∷ 104 ∷ 106 ∷ 110 ∷ 111 ∷ 115 ∷ 118 ∷ 98 ∷ 97 ∷ 99 ∷ 95 ∷ 92 ∷ 93 ∷ 90 ∷ 88 ∷ []
-
-pub steep-eight : List ℕ
-steep-eight = 7 ∷ 3 ∷ 31 ∷ 50 ∷ 44 ∷ 90 ∷ 121 ∷ 130 ∷ 190 ∷ 200 ∷ 180 ∷ 150 ∷ 155 ∷ 90 ∷ 60 ∷ 20 ∷ 1 ∷ []
-
-pub gentle-plane-eight : three 8 (mask 8 gentle-eight 7) (plane 8)
-    ≡ samples (100 ∷ 103 ∷ 105 ∷ 107 ∷ 110 ∷ 112 ∷ 115 ∷ 117
-    ∷ 99 ∷ 101 ∷ 103 ∷ 106 ∷ 108 ∷ 111 ∷ 113 ∷ 116
-    ∷ 97 ∷ 100 ∷ 102 ∷ 104 ∷ 107 ∷ 109 ∷ 112 ∷ 114
-    ∷ 96 ∷ 98 ∷ 101 ∷ 103 ∷ 105 ∷ 108 ∷ 110 ∷ 113
-    ∷ 94 ∷ 97 ∷ 99 ∷ 102 ∷ 104 ∷ 106 ∷ 109 ∷ 111
-    ∷ 93 ∷ 95 ∷ 98 ∷ 100 ∷ 103 ∷ 105 ∷ 107 ∷ 110
-    ∷ 91 ∷ 94 ∷ 96 ∷ 99 ∷ 101 ∷ 104 ∷ 106 ∷ 108
-    ∷ 90 ∷ 92 ∷ 95 ∷ 97 ∷ 100 ∷ 102 ∷ 104 ∷ 107
-    ∷ [])
-unfolding bitOf grid tab gentle-eight plane slanted tilt gain slope clip
-gentle-plane-eight = refl
-
-pub steep-plane-eight : three 8 (mask 8 steep-eight 7) (plane 8)
-    ≡ samples (72 ∷ 94 ∷ 116 ∷ 139 ∷ 161 ∷ 183 ∷ 205 ∷ 227
-    ∷ 58 ∷ 80 ∷ 102 ∷ 124 ∷ 146 ∷ 168 ∷ 191 ∷ 213
-    ∷ 43 ∷ 66 ∷ 88 ∷ 110 ∷ 132 ∷ 154 ∷ 176 ∷ 198
-    ∷ 29 ∷ 51 ∷ 73 ∷ 96 ∷ 118 ∷ 140 ∷ 162 ∷ 184
-    ∷ 15 ∷ 37 ∷ 59 ∷ 81 ∷ 103 ∷ 125 ∷ 148 ∷ 170
-    ∷ 0 ∷ 23 ∷ 45 ∷ 67 ∷ 89 ∷ 111 ∷ 133 ∷ 155
-    ∷ 0 ∷ 8 ∷ 30 ∷ 52 ∷ 75 ∷ 97 ∷ 119 ∷ 141
-    ∷ 0 ∷ 0 ∷ 16 ∷ 38 ∷ 60 ∷ 82 ∷ 105 ∷ 127
-    ∷ [])
-unfolding bitOf grid tab steep-eight plane slanted tilt gain slope clip
-steep-plane-eight = refl

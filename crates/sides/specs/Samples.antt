@@ -1,5 +1,5 @@
--- What stands round n by n samples, and the mask that leaves a missing sample without a value (02, Req 01; ITU-T H.264, 8.3.3).
--- n is 16 for Intra 16x16. A side, and what stands round, are those of `intra4/specs/Samples`. Assumes nothing.
+-- What stands round n by n samples, and the mask that leaves a missing sample without a value (02, Req 01 and Req 05; ITU-T H.264, 8.3.3 and
+-- 8.3.4). n is 16 for Intra 16x16, 8 for chroma. A side, and what stands round, are those of `intra4/specs/Samples`. Assumes nothing.
 use mathlib.Core.Path.{_≡_}
 use mathlib.Core.Bool.{true}
 use mathlib.Core.List.{List}

@@ -7,7 +7,6 @@ ghost use lib.ListN.{length, getD};
 ghost use Rattle.lists.specs.Tab.{tab};
 ghost use Rattle.lists.specs.Total.{total};
 ghost use Rattle.whole.specs.Bounds.{Within, Each};
-ghost use Rattle.intra4.specs.Samples.{sideIf};
 ghost use Rattle.intra4.specs.Rules as paper;
 ghost use Rattle.sides.specs.Plane as standard;
 ghost use Rattle.sides.specs.Code.{rising, falling, riseOf, shownOf};
@@ -115,7 +114,7 @@ fn wide(b: u8) -> u16
     b as u16
 }
 
-fn sum_of(n: u16, side: &[u8]) -> u16
+pub(crate) fn sum_of(n: u16, side: &[u8]) -> u16
     requires { ⌜ (n ≤ 16) × (length (now side) ≡ n) ⌝ }
     ensures { λ r. ⌜ (r ≡ total n (λ k. getD (now (side .entry)) k 0)) × (r ≤ 255 * n) ⌝ }
 {
@@ -124,24 +123,4 @@ fn sum_of(n: u16, side: &[u8]) -> u16
         sum += wide(side[k as usize]);
     }
     sum
-}
-
-// The mean of the sides that are there: the first if `first` says so, the second if `second` does.
-pub(crate) fn mean(n: u16, above: &[u8], left: &[u8], first: bool, second: bool) -> u8
-    requires { ⌜ (0 < n) × (n ≤ 16) × (length (now above) ≡ n) × (length (now left) ≡ n) ⌝ }
-    ensures { λ r. ⌜ r ≡ paper.mean n (sideIf first (now (above .entry))) (sideIf second (now (left .entry))) ⌝ }
-{
-    if first {
-        if second {
-            ((sum_of(n, above) + sum_of(n, left) + n) / (2 * n)) as u8
-        } else {
-            ((sum_of(n, above) + n / 2) / n) as u8
-        }
-    } else {
-        if second {
-            ((sum_of(n, left) + n / 2) / n) as u8
-        } else {
-            128
-        }
-    }
 }

@@ -8,32 +8,40 @@ pub(crate) const BEFORE: u8 = 90;
 
 pub(crate) const NUMBER_BEFORE: i32 = 1515870810;
 
-// The rooms: a list of numbers; a file; a plane.
+// The rooms: a list of numbers; a file; a luma plane; a chroma plane.
 pub(crate) const NUMBERS: usize = 17;
 
-pub(crate) const FILE: usize = 8442;
+pub(crate) const FILE: usize = 12682;
 
 pub(crate) const PLANE: usize = 4096;
 
-// Where the parts begin: the arguments that are no slices, eight bytes each; the word expected; the lengths of the six slices.
-pub(crate) const WORD: usize = 32;
+pub(crate) const CHROMA: usize = 1024;
 
-pub(crate) const LENGTHS: usize = 40;
+// Where the parts begin: the arguments that are no slices, eight bytes each; the word expected; the lengths of the nine slices.
+pub(crate) const WORD: usize = 48;
 
-// The numbers lent, the numbers expected, the second and the first bytes lent, the bytes expected of both outputs.
-pub(crate) const LIST: usize = 52;
+pub(crate) const LENGTHS: usize = 56;
 
-pub(crate) const MADE: usize = 120;
+// The numbers lent, the numbers expected, the second, the third and the first bytes lent, the bytes expected of four outputs.
+pub(crate) const LIST: usize = 74;
 
-pub(crate) const SECOND: usize = 188;
+pub(crate) const MADE: usize = 142;
 
-pub(crate) const FIRST: usize = 205;
+pub(crate) const SECOND: usize = 210;
 
-pub(crate) const OUT: usize = 8647;
+pub(crate) const THIRD: usize = 1234;
 
-pub(crate) const MORE: usize = 17089;
+pub(crate) const FIRST: usize = 2258;
 
-pub(crate) const END: usize = 21185;
+pub(crate) const OUT: usize = 14940;
+
+pub(crate) const MORE: usize = 27622;
+
+pub(crate) const EXTRA: usize = 31718;
+
+pub(crate) const LAST: usize = 32742;
+
+pub(crate) const END: usize = 33766;
 
 fn wide(byte: u8) -> u64
     ensures { λ r. ⌜ r < 256 ⌝ }
@@ -87,7 +95,7 @@ pub(crate) fn numbers(part: &[u8]) -> [i32; 17]
 
 // The length of a slice, cut to the room there is.
 pub(crate) fn lent(frame: &[u8], slice: usize, room: usize) -> usize
-    requires { ⌜ (slice < 6) × (length (now frame) ≡ 21185) ⌝ }
+    requires { ⌜ (slice < 9) × (length (now frame) ≡ 33766) ⌝ }
     ensures { λ r. ⌜ r ≤ room ⌝ }
 {
     let length = two(frame, LENGTHS + 2 * slice) as usize;

@@ -9,6 +9,7 @@ fn main() {
     dc_paths();
     quantizers();
     planes();
+    pictures();
 }
 
 // A function by its number in `calls`, and the file of its recording.
@@ -30,7 +31,7 @@ fn dc_paths() {
 }
 
 fn quantizers() {
-    recording::run(17, b"quantizer");
+    recording::run(19, b"quantizer");
     recording::run(10, b"fb_chroma_quantizer");
     recording::run(12, b"fb_promised_distance");
 }
@@ -39,4 +40,9 @@ fn planes() {
     recording::run(13, b"fb_code_plane");
     recording::run(14, b"fb_read_head");
     recording::run(15, b"fb_decode_plane");
+}
+
+fn pictures() {
+    recording::run(17, b"fb_code_picture");
+    recording::run(18, b"fb_decode_picture");
 }

@@ -2,6 +2,7 @@
 
 use crate::Codec;
 use reference::record::Layout;
+use reference::Picture;
 
 extern "C" {
     fn fb_code_plane(
@@ -21,6 +22,38 @@ extern "C" {
         file_length: usize,
         plane: *mut u8,
         plane_length: usize,
+    ) -> u64;
+    fn fb_code_picture(
+        width: usize,
+        height: usize,
+        rows: usize,
+        qp: u8,
+        cb_offset: i32,
+        cr_offset: i32,
+        luma: *const u8,
+        luma_length: usize,
+        cb: *const u8,
+        cb_length: usize,
+        cr: *const u8,
+        cr_length: usize,
+        file: *mut u8,
+        file_length: usize,
+        luma_out: *mut u8,
+        luma_out_length: usize,
+        cb_out: *mut u8,
+        cb_out_length: usize,
+        cr_out: *mut u8,
+        cr_out_length: usize,
+    ) -> u64;
+    fn fb_decode_picture(
+        file: *const u8,
+        file_length: usize,
+        luma: *mut u8,
+        luma_length: usize,
+        cb: *mut u8,
+        cb_length: usize,
+        cr: *mut u8,
+        cr_length: usize,
     ) -> u64;
 }
 
@@ -94,6 +127,68 @@ impl Codec for Proved {
             unsafe { fb_decode_plane(file.as_ptr(), file.len(), plane.as_mut_ptr(), plane.len()) };
         assert_eq!(word, 0);
     }
+
+    fn colour(&self) -> bool {
+        true
+    }
+
+    fn code_picture(
+        &self,
+        picture: &Picture,
+        area: &mut [u8],
+        [luma_out, cb_out, cr_out]: [&mut [u8]; 3],
+    ) -> usize {
+        let Layout {
+            width,
+            height,
+            rows,
+        } = picture.layout;
+        let [luma, cb, cr] = picture.planes;
+        // Each pointer comes with its slice's length.
+        let word = unsafe {
+            fb_code_picture(
+                width,
+                height,
+                rows,
+                picture.qp,
+                picture.offsets[0],
+                picture.offsets[1],
+                luma.as_ptr(),
+                luma.len(),
+                cb.as_ptr(),
+                cb.len(),
+                cr.as_ptr(),
+                cr.len(),
+                area.as_mut_ptr(),
+                area.len(),
+                luma_out.as_mut_ptr(),
+                luma_out.len(),
+                cb_out.as_mut_ptr(),
+                cb_out.len(),
+                cr_out.as_mut_ptr(),
+                cr_out.len(),
+            )
+        };
+        assert_eq!(word % 256, 0);
+        (word / 256) as usize
+    }
+
+    fn decode_picture(&self, file: &[u8], [luma, cb, cr]: [&mut [u8]; 3]) {
+        // Each pointer comes with its slice's length.
+        let word = unsafe {
+            fb_decode_picture(
+                file.as_ptr(),
+                file.len(),
+                luma.as_mut_ptr(),
+                luma.len(),
+                cb.as_mut_ptr(),
+                cb.len(),
+                cr.as_mut_ptr(),
+                cr.len(),
+            )
+        };
+        assert_eq!(word, 256);
+    }
 }
 
 #[cfg(study)]
@@ -154,6 +249,18 @@ impl Codec for Study {
         };
         assert_eq!(answer, 0);
     }
+
+    fn colour(&self) -> bool {
+        false
+    }
+
+    fn code_picture(&self, _: &Picture, _: &mut [u8], _: [&mut [u8]; 3]) -> usize {
+        unreachable!("it knows no colour")
+    }
+
+    fn decode_picture(&self, _: &[u8], _: [&mut [u8]; 3]) {
+        unreachable!("it knows no colour")
+    }
 }
 
 pub struct Reference;
@@ -190,5 +297,34 @@ impl Codec for Reference {
 
     fn decode(&self, file: &[u8], plane: &mut [u8]) {
         reference::decode_plane(file, plane).expect("the file is whole");
+    }
+
+    fn colour(&self) -> bool {
+        true
+    }
+
+    fn code_picture(
+        &self,
+        picture: &Picture,
+        area: &mut [u8],
+        [luma_out, cb_out, cr_out]: [&mut [u8]; 3],
+    ) -> usize {
+        let Layout {
+            width,
+            height,
+            rows,
+        } = picture.layout;
+        let (qp, [cb_offset, cr_offset]) = (picture.qp, picture.offsets);
+        let [luma, cb, cr] = picture.planes;
+        reference::code_picture(
+            width, height, rows, qp, cb_offset, cr_offset, luma, cb, cr, area, luma_out, cb_out,
+            cr_out,
+        )
+        .expect("the sizes are right")
+    }
+
+    fn decode_picture(&self, file: &[u8], [luma, cb, cr]: [&mut [u8]; 3]) {
+        let colour = reference::decode_picture(file, luma, cb, cr);
+        assert_eq!(colour, Ok(true));
     }
 }

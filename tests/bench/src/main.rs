@@ -1,5 +1,6 @@
 //! Times coder and decoder on pictures of 128x128 macroblocks, one thread: the proved library, the unproved study of its speed where it
-//! is there, and the reference, all in one run. Their files and planes must be the same; the study knows 4x4 records and one slice only.
+//! is there, and the reference, all in one run. Their files and planes must be the same; the study knows 4x4 records and one slice only, and
+//! no colour.
 
 mod library;
 mod pictures;
@@ -8,12 +9,14 @@ mod pictures;
 use library::Study;
 use library::{Proved, Reference};
 use reference::record::Layout;
-use reference::{code_plane_by, Sads};
+use reference::{code_plane_by, Picture, Sads};
 use std::time::{Duration, Instant};
 
 /// In macroblocks: the largest picture.
 const SIDE: usize = 128;
 const SAMPLES: usize = 256 * SIDE * SIDE;
+/// Of a chroma plane.
+const CHROMA: usize = SAMPLES / 4;
 const WHOLE: Layout = Layout {
     width: SIDE,
     height: SIDE,
@@ -21,6 +24,8 @@ const WHOLE: Layout = Layout {
 };
 const IN_SLICES: Layout = Layout { rows: 4, ..WHOLE };
 const QPS: [u8; 2] = [28, 12];
+/// Of Cb and Cr.
+const OFFSETS: [i32; 2] = [-2, 3];
 /// Each is run so often, in turns, and its best time counts: what else the machine does only ever adds to a time.
 const ROUNDS: usize = 12;
 
@@ -41,6 +46,10 @@ trait Codec {
         rebuilt: &mut [u8],
     ) -> usize;
     fn decode(&self, file: &[u8], plane: &mut [u8]);
+    /// Whether it knows colour.
+    fn colour(&self) -> bool;
+    fn code_picture(&self, picture: &Picture, area: &mut [u8], rebuilt: [&mut [u8]; 3]) -> usize;
+    fn decode_picture(&self, file: &[u8], planes: [&mut [u8]; 3]);
 }
 
 fn main() {
@@ -56,8 +65,9 @@ fn main() {
          rebuilt and the decoded plane itself, inside its time; the study and the reference do not."
     );
     for (name, plane) in [("busy", pictures::busy()), ("dial", pictures::dial())] {
+        let chroma = pictures::chroma(&plane);
         for qp in QPS {
-            let mut bench = Bench::new(qp, &plane);
+            let mut bench = Bench::new(qp, &plane, &chroma);
             println!("\n{name}, QP {qp}: {}", bench.both.share());
             bench.run(&codecs);
         }
@@ -92,37 +102,63 @@ impl Coded {
     }
 }
 
+/// The same of a colour picture, whose luma is the plane.
+struct Coloured {
+    file: Vec<u8>,
+    rebuilt: [Vec<u8>; 3],
+}
+
+/// Luma, Cb and Cr, which are lent.
+fn planes() -> [Vec<u8>; 3] {
+    [SAMPLES, CHROMA, CHROMA].map(|samples| vec![1; samples])
+}
+
 /// A plane with its files and the buffers that are lent.
 struct Bench {
     qp: u8,
     plane: Vec<u8>,
+    chroma: [Vec<u8>; 2],
     /// Of both kinds of records, as the coder chooses, in one slice and in many; in one slice of one kind only.
     both: Coded,
     slices: Coded,
     four: Coded,
     sixteen: Coded,
+    colour: Coloured,
     area: Vec<u8>,
     rebuilt: Vec<u8>,
     decoded: Vec<u8>,
+    colour_area: Vec<u8>,
+    colour_rebuilt: [Vec<u8>; 3],
+    colour_decoded: [Vec<u8>; 3],
 }
 
 /// A task that is timed; none for a codec that cannot do it.
 type Task = fn(&mut Bench, &dyn Codec) -> Option<Duration>;
 
-const TASKS: [(&str, Task); 6] = [
+const TASKS: [(&str, Task); 8] = [
     ("code", Bench::code_own),
     ("decode that", Bench::decode_own),
+    ("code colour", Bench::code_colour),
+    ("decode colour", Bench::decode_colour),
     ("code slices", Bench::code_slices),
     ("decode those", Bench::decode_slices),
     ("decode 4x4", Bench::decode_four),
     ("decode 16x16", Bench::decode_sixteen),
 ];
 
+/// Tasks whose times are compared: the first divided by the second.
+const RATIOS: [(&str, &str); 3] = [
+    ("code colour", "code"),
+    ("decode colour", "decode that"),
+    ("decode 16x16", "decode 4x4"),
+];
+
 impl Bench {
-    fn new(qp: u8, plane: &[u8]) -> Bench {
-        Bench {
+    fn new(qp: u8, plane: &[u8], chroma: &[Vec<u8>; 2]) -> Bench {
+        let mut bench = Bench {
             qp,
             plane: plane.to_vec(),
+            chroma: chroma.clone(),
             both: Coded::new(Sads::sixteen_wins, WHOLE, qp, plane),
             slices: Coded::new(Sads::sixteen_wins, IN_SLICES, qp, plane),
             four: Coded::new(|_| false, WHOLE, qp, plane),
@@ -130,7 +166,57 @@ impl Bench {
             area: vec![1; IN_SLICES.area()],
             rebuilt: vec![1; SAMPLES],
             decoded: vec![1; SAMPLES],
+            colour: Coloured {
+                file: vec![],
+                rebuilt: planes(),
+            },
+            colour_area: vec![1; WHOLE.colour_area()],
+            colour_rebuilt: planes(),
+            colour_decoded: planes(),
+        };
+        let (_, used) = bench.coded_in_colour(&Reference);
+        bench.colour.file = bench.colour_area[..used].to_vec();
+        bench.colour.rebuilt = bench.colour_rebuilt.clone();
+        bench
+    }
+
+    fn code_colour(&mut self, codec: &dyn Codec) -> Option<Duration> {
+        if !codec.colour() {
+            return None;
         }
+        let (time, used) = self.coded_in_colour(codec);
+        let same = self.colour_area[..used] == self.colour.file
+            && self.colour_rebuilt == self.colour.rebuilt;
+        assert!(same, "{} codes colour otherwise", codec.name());
+        Some(time)
+    }
+
+    /// The time, and the bytes used of the area.
+    fn coded_in_colour(&mut self, codec: &dyn Codec) -> (Duration, usize) {
+        let [cb, cr] = &self.chroma;
+        let picture = Picture {
+            layout: WHOLE,
+            qp: self.qp,
+            offsets: OFFSETS,
+            planes: [&self.plane, cb, cr],
+        };
+        let rebuilt = self.colour_rebuilt.each_mut().map(Vec::as_mut_slice);
+        let started = Instant::now();
+        let used = codec.code_picture(&picture, &mut self.colour_area, rebuilt);
+        (started.elapsed(), used)
+    }
+
+    fn decode_colour(&mut self, codec: &dyn Codec) -> Option<Duration> {
+        if !codec.colour() {
+            return None;
+        }
+        let decoded = self.colour_decoded.each_mut().map(Vec::as_mut_slice);
+        let started = Instant::now();
+        codec.decode_picture(&self.colour.file, decoded);
+        let time = started.elapsed();
+        let same = self.colour_decoded == self.colour.rebuilt;
+        assert!(same, "{} decodes colour otherwise", codec.name());
+        Some(time)
     }
 
     fn code_own(&mut self, codec: &dyn Codec) -> Option<Duration> {
@@ -203,11 +289,17 @@ impl Bench {
         for ((what, _), best) in TASKS.iter().zip(&best) {
             print_times(what, codecs, best);
         }
-        let [.., four, sixteen] = best;
-        for (codec, pair) in codecs.iter().zip(sixteen.into_iter().zip(four)) {
-            if let (Some(sixteen), Some(four)) = pair {
-                let ratio = sixteen.as_secs_f64() / four.as_secs_f64();
-                println!("decode 16x16 / decode 4x4: {:<14} {ratio:.2}", codec.name());
+        let times = |what: &str| {
+            let place = TASKS.iter().position(|(name, _)| *name == what);
+            &best[place.expect("it is a task")]
+        };
+        for (one, other) in RATIOS {
+            let pairs = times(one).iter().zip(times(other));
+            for (codec, pair) in codecs.iter().zip(pairs) {
+                if let (Some(one_time), Some(other_time)) = pair {
+                    let ratio = one_time.as_secs_f64() / other_time.as_secs_f64();
+                    println!("{one} / {other}: {:<14} {ratio:.2}", codec.name());
+                }
             }
         }
     }
@@ -233,7 +325,7 @@ fn print_times(what: &str, codecs: &[Box<dyn Codec>], times: &[Option<Duration>]
         let Some(time) = time else { continue };
         let seconds = time.as_secs_f64();
         println!(
-            "{what:<12} {:<14} {:6.1} ms, {:4.0} Mpixel/s, {:4.0} ns a block; proved library / this: {:.2}",
+            "{what:<13} {:<14} {:6.1} ms, {:4.0} Mpixel/s, {:4.0} ns a block; proved library / this: {:.2}",
             codec.name(),
             1e3 * seconds,
             SAMPLES as f64 / seconds / 1e6,

@@ -1,6 +1,6 @@
 //! The pictures that are coded.
 
-use crate::{SAMPLES, SIDE};
+use crate::{CHROMA, SAMPLES, SIDE};
 
 /// Slopes, edges and noise, different from macroblock to macroblock, so that every mode is chosen somewhere.
 pub fn busy() -> Vec<u8> {
@@ -44,6 +44,20 @@ pub fn dial() -> Vec<u8> {
         (if ink { ground / 4 } else { ground }) as u8
     };
     (0..SAMPLES).map(sample).collect()
+}
+
+/// Cb and Cr for a luma plane: coloured bands whose edges follow its light and dark, with slopes between them and the noise of a sensor.
+pub fn chroma(luma: &[u8]) -> [Vec<u8>; 2] {
+    let mut random = noise();
+    [0, 1].map(|plane| {
+        let sample = |place: usize| {
+            let (x, y) = (place % (8 * SIDE), place / (8 * SIDE));
+            let light = usize::from(luma[2 * y * 16 * SIDE + 2 * x]);
+            let band = (x / 40 + (plane + 1) * (y / 56)) % 4 * 24;
+            (70 + band + light / 4 + (x + y * (plane + 1)) / 32 % 16 + random(3)) as u8
+        };
+        (0..CHROMA).map(sample).collect()
+    })
 }
 
 /// Numbers below a count, the same in every run.

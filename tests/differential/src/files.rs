@@ -1,11 +1,15 @@
-//! Arguments of the functions on record files: whole files of both kinds of heads and of records, and files damaged in every field,
-//! with the sum mended or not.
+//! Arguments of the functions on record files: whole files of both kinds of heads and of all kinds of records, mono and colour, and files
+//! damaged in every field, with the sum mended or not.
 
-use crate::planes::{picture, LARGEST};
+use crate::colour;
+use crate::pictures::{self, OFFSETS};
+use crate::planes::{held, LARGEST};
 use crate::random::Random;
 use crate::request::Argument::{self, Bytes};
 use reference::extremes::{dc_edges, dc_levels_at};
-use reference::record::{self, Four, Head, Kind, Layout, Luma, Macroblock, Sixteen};
+use reference::record::{
+    self, Chroma, ChromaLevels, Four, Head, Kind, Layout, Luma, Macroblock, Sixteen,
+};
 use reference::Refusal;
 use std::sync::OnceLock;
 
@@ -95,52 +99,76 @@ fn changed(file: &[u8], place: usize, value: u8) -> Vec<u8> {
     file
 }
 
-/// The listed files first, then small ones, mostly damaged, and two of the largest last; a plane that holds anything.
+/// The listed files first, then small ones, mostly damaged, and some of the largest last; planes that hold anything.
 pub const CASES: usize = 200_000;
 
 pub fn decode_plane(random: &mut Random, case: usize) -> Vec<Argument> {
-    let files = files();
-    let (file, samples) = match case.checked_sub(CASES - LARGEST.len()) {
-        Some(which) => (files.largest[which].clone(), LARGEST[which].samples()),
-        None => match files.listed.get(case) {
-            Some(file) => (file.clone(), LISTED_SAMPLES),
-            None => small(random, &files.small),
-        },
-    };
-    let plane = (0..samples).map(|_| random.byte()).collect();
+    let Chosen { file, lengths } = chosen(random, case, 1);
+    let plane = held(random, lengths[0]);
     vec![Bytes(file), Bytes(plane)]
 }
 
-/// A file that is damaged once, twice or not at all, and the samples that are lent for it.
-fn small(random: &mut Random, files: &[Vec<u8>]) -> (Vec<u8>, usize) {
+pub fn decode_picture(random: &mut Random, case: usize) -> Vec<Argument> {
+    let Chosen { file, lengths } = chosen(random, case, 3);
+    let planes = lengths.map(|length| Bytes(held(random, length)));
+    [Bytes(file)].into_iter().chain(planes).collect()
+}
+
+/// A file, and the lengths of the planes that are lent for it: luma, Cb, Cr.
+struct Chosen {
+    file: Vec<u8>,
+    lengths: [usize; 3],
+}
+
+/// The lengths are those of the file's layout; now and then one of the first so many planes has another.
+fn chosen(random: &mut Random, case: usize, planes: usize) -> Chosen {
+    let files = files();
+    let (file, layout) = match case.checked_sub(CASES - files.largest.len()) {
+        Some(which) => files.largest[which].clone(),
+        None => match files.listed.get(case) {
+            Some(listed) => listed.clone(),
+            None => return small(random, &files.small, planes),
+        },
+    };
+    let lengths = lengths(layout);
+    Chosen { file, lengths }
+}
+
+fn lengths(layout: Layout) -> [usize; 3] {
+    let chroma = layout.chroma_samples();
+    [layout.samples(), chroma, chroma]
+}
+
+/// A file that is damaged once, twice or not at all.
+fn small(random: &mut Random, files: &[Vec<u8>], planes: usize) -> Chosen {
     let mut file = files[random.below(files.len())].clone();
     let layout = record::read_head(&file).expect("it is whole yet");
-    let samples = layout.samples();
+    let mut lengths = lengths(layout);
     let times = random.of(&[0, 1, 1, 1, 2]);
     (0..times).for_each(|_| damage(random, &mut file));
-    let samples = match random.once_in(20) {
-        true => random.of(&[samples - 1, samples + 1, 0, samples + 256]),
-        false => samples,
-    };
-    (file, samples)
+    if random.once_in(20) {
+        let length = &mut lengths[random.below(planes)];
+        *length = random.of(&[*length - 1, *length + 1, 0, *length + 256]);
+    }
+    Chosen { file, lengths }
 }
 
 struct Files {
-    listed: Vec<Vec<u8>>,
+    listed: Vec<(Vec<u8>, Layout)>,
     small: Vec<Vec<u8>>,
-    largest: [Vec<u8>; LARGEST.len()],
+    largest: Vec<(Vec<u8>, Layout)>,
 }
 
 /// Made once. The small ones are most of 1x1 macroblock, some of up to 3x4 and a few of up to 5x9 in slices, of all QPs: every other one is
-/// what the coder makes of a picture, and the rest have records of drawn kinds, modes and levels.
+/// what the coder makes of a picture, and the rest have records of drawn kinds, modes and levels. Half of them are colour.
 fn files() -> &'static Files {
     static FILES: OnceLock<Files> = OnceLock::new();
     FILES.get_or_init(|| {
         let mut random = Random::new(0xF11E5);
-        let small = (0..320)
+        let small = (0..480)
             .map(|number| {
                 let sides = match (number % 80, number % 8) {
-                    (78 | 79, _) => [5, 9],
+                    (76.., _) => [5, 9],
                     (_, 4..) => [3, 4],
                     _ => [1, 1],
                 };
@@ -150,37 +178,54 @@ fn files() -> &'static Files {
                     height,
                     rows: random.between(1, height as i32) as usize,
                 };
+                let colour = number / 2 % 2 == 1;
                 match number % 2 {
-                    0 => coded(&mut random, layout, (number % 52) as u8),
-                    _ => drawn(&mut random, layout),
+                    0 => coded(&mut random, layout, (number % 52) as u8, colour),
+                    _ => drawn(&mut random, layout, colour),
                 }
             })
             .collect();
-        let largest = LARGEST.map(|layout| coded(&mut random, layout, 28));
+        let largest = LARGEST.into_iter().zip([true, false]);
+        let largest = largest.map(|(layout, colour)| {
+            let file = coded(&mut random, layout, 28, colour);
+            (file, layout)
+        });
         Files {
+            largest: largest.collect(),
             listed: listed(),
             small,
-            largest,
         }
     })
 }
 
-fn coded(random: &mut Random, layout: Layout, qp: u8) -> Vec<u8> {
+fn coded(random: &mut Random, layout: Layout, qp: u8, colour: bool) -> Vec<u8> {
     let Layout {
         width,
         height,
         rows,
     } = layout;
-    let plane = picture(random, width, height);
-    let mut file = vec![0; layout.area()];
-    let mut rebuilt = vec![0; plane.len()];
-    let used = reference::code_plane(width, height, rows, qp, &plane, &mut file, &mut rebuilt);
+    let [luma, cb, cr] = pictures::planes(random, layout);
+    let mut rebuilt = lengths(layout).map(|length| vec![0; length]);
+    let [luma_out, cb_out, cr_out] = &mut rebuilt;
+    let mut file;
+    let used = if colour {
+        let [cb_offset, cr_offset] = [0; 2].map(|_: i32| random.between(-12, 12));
+        file = vec![0; layout.colour_area()];
+        reference::code_picture(
+            width, height, rows, qp, cb_offset, cr_offset, &luma, &cb, &cr, &mut file, luma_out,
+            cb_out, cr_out,
+        )
+    } else {
+        file = vec![0; layout.area()];
+        reference::code_plane(width, height, rows, qp, &luma, &mut file, luma_out)
+    };
     file.truncate(used.expect("the sizes are right"));
     file
 }
 
-/// Drawn macroblocks, amended where they are none; one slice has either head.
-fn drawn(random: &mut Random, layout: Layout) -> Vec<u8> {
+/// Drawn macroblocks, amended where they are none; one slice has either head. Chroma comes when luma is accepted, so that a refusal's place
+/// is then its own.
+fn drawn(random: &mut Random, layout: Layout, colour: bool) -> Vec<u8> {
     let head = match layout.head() {
         Head::Old => random.of(&Head::ALL),
         Head::New => Head::New,
@@ -189,13 +234,22 @@ fn drawn(random: &mut Random, layout: Layout) -> Vec<u8> {
         .map(|_| macroblock(random))
         .collect();
     let mut plane = vec![0; layout.samples()];
-    loop {
-        let file = record::file_with(head, layout, &macroblocks).expect("it is a size");
+    let mut accepted = |macroblocks: &mut [Macroblock],
+                        amend: fn(&mut [Macroblock], Refusal, usize)| loop {
+        let file = record::file_with(head, layout, macroblocks).expect("it is a size");
         match reference::decode_plane(&file, &mut plane) {
             Ok(()) => return file,
-            Err(refusal) => amend(&mut macroblocks, refusal),
+            Err(refusal) => amend(macroblocks, refusal, head.bytes()),
         }
+    };
+    let mono = accepted(&mut macroblocks, amend);
+    if !colour {
+        return mono;
     }
+    for macroblock in &mut macroblocks {
+        macroblock.chroma = Some(chroma(random));
+    }
+    accepted(&mut macroblocks, amend_chroma)
 }
 
 fn macroblock(random: &mut Random) -> Macroblock {
@@ -211,7 +265,24 @@ fn macroblock(random: &mut Random) -> Macroblock {
             ac: std::array::from_fn(|_| levels(random)),
         }),
     };
-    Macroblock { qp, luma }
+    Macroblock {
+        qp,
+        luma,
+        chroma: None,
+    }
+}
+
+fn chroma(random: &mut Random) -> Chroma {
+    let mut levels = || ChromaLevels {
+        dc: levels(random),
+        ac: std::array::from_fn(|_| levels(random)),
+    };
+    let levels = [levels(), levels()];
+    Chroma {
+        offsets: [0; 2].map(|_: i8| random.between(-12, 12) as i8),
+        mode: random.byte() % 4,
+        levels,
+    }
 }
 
 /// Levels of a random number of bits.
@@ -221,7 +292,7 @@ fn levels<const N: usize>(random: &mut Random) -> [i16; N] {
 }
 
 /// Takes away what a macroblock is refused for: the DC mode needs nothing, and small levels are in range.
-fn amend(macroblocks: &mut [Macroblock], Refusal { number, place }: Refusal) {
+fn amend(macroblocks: &mut [Macroblock], Refusal { number, place }: Refusal, _: usize) {
     let (record, block) = (place as usize / 16, place as usize % 16);
     match (number, &mut macroblocks[record].luma) {
         (3, Luma::Four(four)) => four.modes[block] = 2,
@@ -234,18 +305,43 @@ fn amend(macroblocks: &mut [Macroblock], Refusal { number, place }: Refusal) {
     }
 }
 
+/// The same of chroma, by its record's first byte.
+fn amend_chroma(macroblocks: &mut [Macroblock], Refusal { number, place }: Refusal, head: usize) {
+    let mut first = head;
+    for macroblock in macroblocks {
+        let own = first + macroblock.kind().bytes();
+        first += macroblock.bytes();
+        if own as u64 != place {
+            continue;
+        }
+        let chroma = macroblock.chroma.as_mut().expect("the file is colour");
+        match number {
+            3 => chroma.mode = 0,
+            _ => {
+                for levels in &mut chroma.levels {
+                    halve(&mut levels.dc);
+                    halve(levels.ac.as_flattened_mut());
+                }
+            }
+        }
+    }
+}
+
 fn halve(levels: &mut [i16]) {
     levels.iter_mut().for_each(|level| *level /= 2);
 }
 
 // ---- the listed files
 
-/// All of them are of 2x2 macroblocks by their heads.
-const LISTED_SAMPLES: usize = 1024;
+/// A file that is cut and changed at every byte, and what it is called.
+pub struct Whole {
+    pub name: &'static str,
+    pub file: Vec<u8>,
+}
 
-/// The files that are cut and changed at every byte: 16x16, 4x4, 4x4, 16x16; in one slice, and in two.
-pub fn listed_wholes() -> &'static [Vec<u8>; 2] {
-    static WHOLES: OnceLock<[Vec<u8>; 2]> = OnceLock::new();
+/// Luma of the kinds 16x16, 4x4, 4x4, 16x16; in one slice, and in two; mono, and colour.
+pub fn listed_wholes() -> &'static [Whole; 4] {
+    static WHOLES: OnceLock<[Whole; 4]> = OnceLock::new();
     WHOLES.get_or_init(|| {
         let four = four([2; 16], std::array::from_fn(|block| [block as i16 - 8; 16]));
         let first = sixteen(20, 2, SLOPE, [[1; 15]; 16]);
@@ -253,7 +349,13 @@ pub fn listed_wholes() -> &'static [Vec<u8>; 2] {
             let last = sixteen(33, mode, SLOPE, [[-1; 15]; 16]);
             [first.clone(), four.clone(), four.clone(), last]
         };
-        [file(&all(3)), file_in_slices(&all(1))]
+        let whole = |name, file| Whole { name, file };
+        [
+            whole("with the Old head", file(&all(3))),
+            whole("with the New head", file_in_slices(&all(1))),
+            whole("in colour with the Old head", colour::whole(2)),
+            whole("in colour with the New head", colour::whole(1)),
+        ]
     })
 }
 
@@ -261,6 +363,7 @@ fn four(modes: [u8; 16], levels: [[i16; 16]; 16]) -> Macroblock {
     Macroblock {
         qp: 28,
         luma: Luma::Four(Four { modes, levels }),
+        chroma: None,
     }
 }
 
@@ -270,6 +373,7 @@ fn sixteen(qp: u8, mode: u8, dc: [i16; 16], ac: [[i16; 15]; 16]) -> Macroblock {
     Macroblock {
         qp,
         luma: Luma::Sixteen(Sixteen { mode, dc, ac }),
+        chroma: None,
     }
 }
 
@@ -288,26 +392,24 @@ fn file_in_slices(macroblocks: &[Macroblock]) -> Vec<u8> {
 }
 
 /// The bad inputs that must be among the cases.
-fn listed() -> Vec<Vec<u8>> {
-    let [one, two] = listed_wholes();
-    [
-        damaged(one),
-        damaged(two),
-        surplus(one),
-        surplus(two),
-        heads(),
-        modes_in_slices(),
-        contents(),
-        dc_ends(),
-    ]
-    .concat()
+fn listed() -> Vec<(Vec<u8>, Layout)> {
+    let wholes = listed_wholes().iter().map(|whole| &whole.file);
+    let files = wholes.flat_map(|whole| [damaged(whole), surplus(whole)].concat());
+    let rest = [heads(), modes_in_slices(), contents(), dc_ends()].concat();
+    // All of these are of 2x2 macroblocks by their heads.
+    let files = files
+        .chain(rest)
+        .map(|file| (file, Layout::one_slice(2, 2)));
+    let named = colour::named().iter();
+    let named = named.map(|named| (named.file.clone(), named.layout));
+    files.chain(named).collect()
 }
 
 /// The listed files with other heads: each byte changed to 0, one more and its complement, also with the sum mended; the other mark; the
 /// new head for one slice; and rows that are none.
 fn heads() -> Vec<Vec<u8>> {
     let mut files = vec![];
-    for whole in listed_wholes() {
+    for Whole { file: whole, .. } in listed_wholes() {
         let kind = Head::of(whole).expect("it is whole");
         let (head, records) = whole.split_at(kind.bytes());
         let bytes = (0..head.len())
@@ -348,7 +450,7 @@ fn modes_in_slices() -> Vec<Vec<u8>> {
 }
 
 /// Cut at every byte; every byte with another bit changed, and those of marks, numbers and sums with each; every bit of a number, with
-/// the sum mended; the other kind's marks.
+/// the sum mended; the other kinds' marks.
 fn damaged(whole: &[u8]) -> Vec<Vec<u8>> {
     let changed = |place: usize, by: u8| {
         let mut file = whole.to_vec();
@@ -358,7 +460,6 @@ fn damaged(whole: &[u8]) -> Vec<Vec<u8>> {
     let cut = (0..whole.len()).map(|length| whole[..length].to_vec());
     let everywhere = (0..whole.len()).map(|place| changed(place, 1 << (place % 8)));
     let mut files: Vec<Vec<u8>> = cut.chain(everywhere).collect();
-    let [four, sixteen] = Kind::ALL.map(|kind| kind.mark()[1]);
     for (first, kind) in records(whole) {
         let end = first + kind.bytes();
         let (number, sum) = ([first + 2, first + 3], [end - 2, end - 1]);
@@ -372,7 +473,9 @@ fn damaged(whole: &[u8]) -> Vec<Vec<u8>> {
                 file
             }));
         }
-        files.push(changed(first + 1, four ^ sixteen));
+        let others = Kind::ALL.into_iter().filter(|&other| other != kind);
+        let marks = others.map(|other| other.mark()[1] ^ kind.mark()[1]);
+        files.extend(marks.map(|by| changed(first + 1, by)));
     }
     files
 }
@@ -486,9 +589,10 @@ fn damage(random: &mut Random, file: &mut Vec<u8>) {
     if records.is_empty() {
         return;
     }
-    match random.below(8) {
+    match random.below(9) {
         0 => any_damage(random, file),
-        1 => {
+        1 => order_damage(random, file, &records),
+        2 => {
             let (first, _) = records[0];
             let head = &mut file[..first];
             head_damage(random, head);
@@ -519,6 +623,22 @@ fn any_damage(random: &mut Random, file: &mut Vec<u8>) {
     }
 }
 
+/// A record left out, doubled, or exchanged with the next.
+fn order_damage(random: &mut Random, file: &mut Vec<u8>, records: &[(usize, Kind)]) {
+    let which = random.below(records.len());
+    let (first, kind) = records[which];
+    let own = first..first + kind.bytes();
+    match (random.below(3), records.get(which + 1)) {
+        (0, _) => drop(file.drain(own)),
+        (1, _) => {
+            let record = file[own].to_vec();
+            drop(file.splice(first..first, record));
+        }
+        (_, Some((_, next))) => file[first..own.end + next.bytes()].rotate_left(kind.bytes()),
+        (_, None) => {}
+    }
+}
+
 /// In the mark, the width, the height, the rows or the sum.
 fn head_damage(random: &mut Random, head: &mut [u8]) {
     let sum = head.len() - 2;
@@ -531,21 +651,24 @@ fn head_damage(random: &mut Random, head: &mut [u8]) {
     }
 }
 
-/// In the mark, the number, the QP, a mode, a level or the sum; mostly in what a decoder can use.
+/// In the mark, the number, the QP or an offset, a mode, a level or the sum; mostly in what a decoder can use.
 fn record_damage(random: &mut Random, record: &mut [u8], kind: Kind) {
-    // The modes of a record, and where its 256 levels begin.
-    let (modes, levels) = match kind {
-        Kind::Four => (8, 13),
-        Kind::Sixteen => (1, 6),
+    // What stands before the modes, the modes, and the levels behind them.
+    let (quantizers, modes, levels) = match kind {
+        Kind::Four => (1, 8, 256),
+        Kind::Sixteen => (1, 1, 256),
+        Kind::Chroma => (2, 1, 128),
     };
-    let mode = 5 + random.below(modes);
-    let level = levels + 2 * random.below(256);
+    let quantizer = 4 + random.below(quantizers);
+    let mode = 4 + quantizers + random.below(modes);
+    let level = 4 + quantizers + modes + 2 * random.below(levels);
     let sum = kind.bytes() - 2;
     match random.below(12) {
         0 => record[random.below(2)] ^= 1 << random.below(8),
         1 => record[2 + random.below(2)] = random.byte() % 4,
-        2 => record[4] = random.of(&[0, 51, 52, 255]),
-        3 => record[4] = random.byte(),
+        2 if kind == Kind::Chroma => record[quantizer] = random.of(&OFFSETS) as u8,
+        2 => record[quantizer] = random.of(&[0, 51, 52, 255]),
+        3 => record[quantizer] = random.byte(),
         4 => record[mode] = random.byte(),
         5 => record[mode] = random.byte() % 4,
         6 => record[level] = random.byte(),

@@ -1,6 +1,8 @@
 //! Kinds of cases that must come beside the outcomes: what the coder chose and left, and what a head or a file was read as or refused for.
 
-use crate::files::{listed_head, listed_wholes, other_values, records};
+use crate::colour::{self, Named, Told};
+use crate::files::{listed_head, listed_wholes, other_values, records, Whole};
+use crate::picture_kinds;
 use crate::request::Argument::{self, Bytes, Number};
 use reference::extremes::dc_edges;
 use reference::record::{self, Broken, Fault, Head, Kind, Layout, Luma, Macroblock, Sixteen};
@@ -11,7 +13,12 @@ pub fn required(function: &str) -> Vec<String> {
     match function {
         "fb_code_plane" => required_of_coding(),
         "fb_read_head" => required_of_heads(),
-        "fb_decode_plane" => required_of_decoding(),
+        "fb_decode_plane" => required_of_decoding(false),
+        "fb_code_picture" => picture_kinds::required_of_coding(),
+        "fb_decode_picture" => {
+            let lengths = picture_kinds::required_lengths();
+            [required_of_decoding(true), lengths].concat()
+        }
         _ => vec![],
     }
 }
@@ -22,6 +29,11 @@ pub fn of(function: &str, word: u64, arguments: &[Argument]) -> Vec<String> {
         "fb_code_plane" => of_coding(word, arguments),
         "fb_read_head" => of_reading(word, arguments),
         "fb_decode_plane" => of_decoding(word, arguments),
+        "fb_code_picture" => picture_kinds::of_coding(word, arguments),
+        "fb_decode_picture" => {
+            let lengths = picture_kinds::of_lengths(word, arguments);
+            [of_decoding(word, arguments), lengths].concat()
+        }
         _ => vec![],
     }
 }
@@ -29,7 +41,7 @@ pub fn of(function: &str, word: u64, arguments: &[Argument]) -> Vec<String> {
 // ---- slices
 
 /// Rows that are refused.
-const BAD_ROWS: [&str; 3] = [
+pub const BAD_ROWS: [&str; 3] = [
     "slices of 0 rows",
     "slices of one row more than the height",
     "slices of 65535 rows",
@@ -41,14 +53,14 @@ fn in_slices(height: usize, rows: usize) -> String {
 }
 
 /// Every number of rows up to this height.
-fn every_slicing(height: usize) -> impl Iterator<Item = String> {
+pub fn every_slicing(height: usize) -> impl Iterator<Item = String> {
     let of = |height| (1..=height).map(move |rows| in_slices(height, rows));
     (1..=height)
         .flat_map(of)
         .chain([SHORTER].map(str::to_owned))
 }
 
-fn of_slicing(layout: Layout) -> Vec<String> {
+pub fn of_slicing(layout: Layout) -> Vec<String> {
     let shorter = !layout.height.is_multiple_of(layout.rows);
     let named = shorter.then(|| SHORTER.to_owned());
     let slicing = in_slices(layout.height, layout.rows);
@@ -56,7 +68,7 @@ fn of_slicing(layout: Layout) -> Vec<String> {
 }
 
 /// Of numbers that are refused by SIZE.
-fn of_bad_rows(layout: Layout) -> Vec<String> {
+pub fn of_bad_rows(layout: Layout) -> Vec<String> {
     let side = 1..=128;
     if !side.contains(&layout.width) || !side.contains(&layout.height) {
         return vec![];
@@ -69,16 +81,16 @@ fn of_bad_rows(layout: Layout) -> Vec<String> {
 
 // ---- coding
 
-const REST: &str = "the rest of the area keeps its bytes";
+pub const REST: &str = "the rest of the area keeps its bytes";
 const TIE: &str = "the least SAD of 16x16 is the sum of the 4x4 SADs";
 const TIE_OF_MODES: &str = "16x16 wins by two modes alike";
-const JUST_USED: &str = "an area of just the bytes that would be used";
+pub const JUST_USED: &str = "an area of just the bytes that would be used";
 
-fn coded(mode: u8) -> String {
+pub fn coded(mode: u8) -> String {
     format!("a macroblock coded by mode {mode} of 16x16")
 }
 
-fn other_area(head: Head) -> String {
+pub fn other_area(head: Head) -> String {
     format!("an area for the other head than the {head:?} one")
 }
 
@@ -142,7 +154,7 @@ fn of_area(layout: Layout, used: usize, lent: usize) -> Vec<String> {
         .collect()
 }
 
-fn of_choice(sads: &Sads) -> Vec<String> {
+pub fn of_choice(sads: &Sads) -> Vec<String> {
     let (least, mode) = sads.best_sixteen();
     let mut kinds = vec![];
     if least == sads.four {
@@ -157,9 +169,6 @@ fn of_choice(sads: &Sads) -> Vec<String> {
 }
 
 // ---- what is broken in a file (request 03)
-
-/// The number and the place of a word.
-type Told = (u64, usize);
 
 const FORM: u64 = 9;
 const MARK: u64 = 11;
@@ -318,19 +327,21 @@ const DC_AND_AC: &str = "a DC value out of range, and AC of another block than t
 const MODE_4: &str = "mode 4 of 16x16";
 const ABOVE_4: &str = "a mode of 16x16 above 4";
 const BEHIND: &str = "behind the last record";
+const BEHIND_COLOUR: &str = "behind the last record of a colour file";
 const SUM_RIGHT: &str = "whose sum is right";
+const LUMA: &str = "where luma is expected";
+const CHROMA: &str = "where chroma is expected";
 
 fn decoded(mode: u8) -> String {
     format!("a macroblock decoded by mode {mode} of 16x16")
 }
 
-/// The listed files are told apart by their heads.
-fn cut(head: Head, length: usize) -> String {
-    format!("the listed file with the {head:?} head cut to {length} bytes")
+fn cut(whole: &Whole, length: usize) -> String {
+    format!("the listed file {} cut to {length} bytes", whole.name)
 }
 
-fn changed(head: Head, place: usize) -> String {
-    format!("the listed file with the {head:?} head and another byte {place}")
+fn changed(whole: &Whole, place: usize) -> String {
+    format!("the listed file {} and another byte {place}", whole.name)
 }
 
 /// A fault behind a head, and the number that it is refused by; `at` says more about it.
@@ -358,13 +369,19 @@ fn dc(qp: u8, value: i64) -> String {
     format!("a DC value of {value} at QP {qp}")
 }
 
-fn required_of_decoding() -> Vec<String> {
-    let listed = Head::ALL.into_iter().zip(listed_wholes());
-    let listed = listed.flat_map(|(head, whole)| {
-        (0..whole.len()).flat_map(move |place| {
+/// The colour files that have names come to the words that they must; where no value says that a file is colour, to that of a mono one.
+fn required_of_decoding(says_colour: bool) -> Vec<String> {
+    let named = colour::named().iter();
+    let colour_files = named.map(|Named { name, told: by, .. }| match by {
+        (0, _) if !says_colour => told(name.clone(), (0, 0)),
+        _ => told(name.clone(), *by),
+    });
+    let listed = listed_wholes().iter().flat_map(|whole| {
+        let file = &whole.file;
+        (0..file.len()).flat_map(move |place| {
             [
-                told(cut(head, place), of_a_cut(whole, place)),
-                told(changed(head, place), of_another_byte(whole, place)),
+                told(cut(whole, place), of_a_cut(file, place)),
+                told(changed(whole, place), of_another_byte(file, place)),
             ]
         })
     });
@@ -384,11 +401,12 @@ fn required_of_decoding() -> Vec<String> {
     let edges = (0..=51).flat_map(|qp| edges(qp).map(|value| dc(qp, value)));
     let named = [BOTH, DC_AND_AC, MODE_4, ABOVE_4].map(str::to_owned);
     listed
+        .chain(colour_files)
         .chain(required_of_heads())
         .chain(every_slicing(4))
         .chain(across)
         .chain((0..4).map(decoded))
-        .chain(Kind::ALL.map(quantizer))
+        .chain(Kind::LUMA.map(quantizer))
         .chain(faults)
         .chain(lacking)
         .chain((0..16).map(ac))
@@ -409,13 +427,17 @@ fn required_faults(head: Head) -> Vec<String> {
             fault(head, Fault::Sum, &at, SUM),
         ]
     });
-    let faults = [
-        fault(head, Fault::CutMark, "at 0", FORM),
-        fault(head, Fault::CutMark, "at 1", FORM),
-        fault(head, Fault::Mark, "at 0", MARK),
-        fault(head, Fault::Mark, "at 1", MARK),
-        fault(head, Fault::Surplus, BEHIND, FORM),
-    ];
+    // A mark that is none or cut; of a kind that does not belong there.
+    let unknown = [LUMA, CHROMA].into_iter().flat_map(|expected| {
+        ["at 0", "at 1"].into_iter().flat_map(move |at| {
+            let at = format!("{at} {expected}");
+            [(Fault::CutMark, FORM), (Fault::Mark, MARK)]
+                .map(|(it, number)| fault(head, it, &at, number))
+        })
+    });
+    let other = Kind::ALL.map(|kind| fault(head, Fault::Mark, &format!("of {kind:?}"), MARK));
+    let surplus = [BEHIND, BEHIND_COLOUR].map(|at| fault(head, Fault::Surplus, at, FORM));
+    let faults = unknown.chain(other).chain(surplus);
     of_kinds.chain(faults).collect()
 }
 
@@ -425,11 +447,12 @@ fn edges(qp: u8) -> [i64; 4] {
 }
 
 fn of_decoding(word: u64, arguments: &[Argument]) -> Vec<String> {
-    let [Bytes(file), _] = arguments else {
+    let [Bytes(file), ..] = arguments else {
         unreachable!()
     };
     let (number, place) = parts(word);
     let mut kinds = of_the_listed((number, place), file);
+    kinds.extend(colour::names_of(file).map(|name| told(name.to_owned(), (number, place))));
     kinds.extend(of_head((number, place), file));
     let Ok(layout) = record::read_head(file) else {
         return kinds;
@@ -441,6 +464,8 @@ fn of_decoding(word: u64, arguments: &[Argument]) -> Vec<String> {
             kinds.extend(of_slicing(layout));
             kinds.extend(of_decoded(&macroblocks));
         }
+        // The places of luma and chroma have one meaning each, but not one that a number tells; those of colour files have names.
+        (Ok(macroblocks), _) if macroblocks[0].chroma.is_some() => {}
         (Ok(macroblocks), _) => {
             let refused = (place / 16, place % 16);
             kinds.extend(of_refused(number, refused, layout, &macroblocks));
@@ -451,27 +476,36 @@ fn of_decoding(word: u64, arguments: &[Argument]) -> Vec<String> {
 
 /// Whether a file is a beginning of a listed one, or that with one other byte.
 fn of_the_listed(by: Told, file: &[u8]) -> Vec<String> {
-    let listed = Head::ALL.into_iter().zip(listed_wholes());
-    let of = |(head, whole): (Head, &Vec<u8>)| {
-        if file.len() < whole.len() && whole.starts_with(file) {
-            return Some(told(cut(head, file.len()), by));
+    let of = |whole: &Whole| {
+        if file.len() < whole.file.len() && whole.file.starts_with(file) {
+            return Some(told(cut(whole, file.len()), by));
         }
-        Some(told(changed(head, other_byte(file, whole)?), by))
+        Some(told(changed(whole, other_byte(file, &whole.file)?), by))
     };
-    listed.filter_map(of).collect()
+    listed_wholes().iter().filter_map(of).collect()
 }
 
 fn of_broken(number: u64, file: &[u8], broken: Broken) -> String {
     let head = Head::of(file).expect("the head is sound");
     let record = &file[broken.first..];
     let known = |kind: &Kind| record.starts_with(&kind.mark());
+    let before: Vec<(usize, Kind)> = records(file)
+        .into_iter()
+        .take_while(|(first, _)| *first < broken.first)
+        .collect();
+    let colour = before.get(1).is_some_and(|it| it.1 == Kind::Chroma);
+    let expected = match colour && before.len() % 2 == 1 {
+        true => CHROMA,
+        false => LUMA,
+    };
     let at = match (broken.fault, Kind::ALL.into_iter().find(known)) {
+        (Fault::Surplus, _) if colour => BEHIND_COLOUR.to_owned(),
         (Fault::Surplus, _) => BEHIND.to_owned(),
         (Fault::Number, Some(kind)) if record::sum_is_right(&record[..kind.bytes()]) => {
             format!("of {kind:?} {SUM_RIGHT}")
         }
         (_, Some(kind)) => format!("of {kind:?}"),
-        (_, None) => at_mark(record, b'M'),
+        (_, None) => format!("{} {expected}", at_mark(record, b'M')),
     };
     fault(head, broken.fault, &at, number)
 }
@@ -485,7 +519,7 @@ fn of_decoded(macroblocks: &[Macroblock]) -> Vec<String> {
         }
     }
     let has = |kind| macroblocks.iter().any(|it| it.kind() == kind);
-    kinds.extend(Kind::ALL.into_iter().all(has).then(|| BOTH.to_owned()));
+    kinds.extend(Kind::LUMA.into_iter().all(has).then(|| BOTH.to_owned()));
     kinds
 }
 

@@ -4,11 +4,14 @@
 //! differential COMMAND..: the command runs the peer.
 
 mod blocks;
+mod colour;
 mod distances;
 mod files;
 mod functions;
 mod kinds;
 mod peer;
+mod picture_kinds;
+mod pictures;
 mod planes;
 mod random;
 mod request;

@@ -138,24 +138,29 @@ fn drawn(random: &mut Random) -> Call {
 
 /// A picture of slopes with noise, so that every mode of 4x4 is chosen somewhere; now and then only black and white, or plain ground.
 pub fn picture(random: &mut Random, width: usize, height: usize) -> Vec<u8> {
+    plane(random, 16, width, height)
+}
+
+/// A plane in which a macroblock has this side: 16 in luma, 8 in chroma.
+pub fn plane(random: &mut Random, side: usize, width: usize, height: usize) -> Vec<u8> {
     if random.below(8) < [1, 6][usize::from(width * height > 1)] {
-        return plain(random, width, height);
+        return plain(random, side, width, height);
     }
     let (down, right, noise) = (random.below(12), random.below(12), 1 + random.below(90));
     let hard = random.once_in(8);
     let sample = |place: usize| {
-        let (x, y) = (place % (16 * width), place / (16 * width));
+        let (x, y) = (place % (side * width), place / (side * width));
         match hard {
             true => random.of(&[0, 255]),
-            false => (right * x + down * y + x / 16 * 40 + random.below(noise)) as u8,
+            false => (right * x + down * y + x / side * 40 + random.below(noise)) as u8,
         }
     };
-    (0..256 * width * height).map(sample).collect()
+    (0..side * side * width * height).map(sample).collect()
 }
 
 /// Plain ground with little noise or none, on which 16x16 wins now and then: waves of columns or of rows, a slope, grain round one grey,
 /// or patches of it.
-fn plain(random: &mut Random, width: usize, height: usize) -> Vec<u8> {
+fn plain(random: &mut Random, side: usize, width: usize, height: usize) -> Vec<u8> {
     let (kind, grey, noise) = (
         random.below(6),
         random.of(&[60, 128, 128, 200]),
@@ -164,22 +169,22 @@ fn plain(random: &mut Random, width: usize, height: usize) -> Vec<u8> {
     let (down, right, step) = (random.below(4), random.below(4), random.between(3, 40));
     let wave = |along: usize| 40 + (along as i32 * step % 200 - 100).unsigned_abs() as usize;
     let sample = |place: usize| {
-        let (x, y) = (place % (16 * width), place / (16 * width));
+        let (x, y) = (place % (side * width), place / (side * width));
         let noise = random.below(noise);
         let sample = match kind {
             0 => wave(x) + noise,
             1 => wave(y) + noise,
             2 | 3 => 20 + right * x + down * y + noise,
-            4 if (x / 16 + y / 16) % 2 == 0 => grey,
+            4 if (x / side + y / side).is_multiple_of(2) => grey,
             _ => grey - 16 + random.below(32),
         };
         sample.min(255) as u8
     };
-    (0..256 * width * height).map(sample).collect()
+    (0..side * side * width * height).map(sample).collect()
 }
 
 /// An output as it is before the call: a refusal must leave these very bytes.
-fn held(random: &mut Random, length: usize) -> Vec<u8> {
+pub fn held(random: &mut Random, length: usize) -> Vec<u8> {
     (0..length).map(|_| random.byte()).collect()
 }
 

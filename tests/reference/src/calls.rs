@@ -140,6 +140,28 @@ pub fn decode_plane(arguments: &mut [Argument]) -> Result<u64, Refusal> {
     crate::decode_plane(file, plane).map(|()| 0)
 }
 
+pub fn code_picture(arguments: &mut [Argument]) -> Result<u64, Refusal> {
+    let [Number(width), Number(height), Number(rows), Number(qp), Number(cb_offset), Number(cr_offset), Bytes(luma), Bytes(cb), Bytes(cr), Bytes(file), Bytes(luma_out), Bytes(cb_out), Bytes(cr_out)] =
+        arguments
+    else {
+        unreachable!()
+    };
+    let [width, height, rows] = [width, height, rows].map(|number| *number as usize);
+    let [cb_offset, cr_offset] = [cb_offset, cr_offset].map(|number| *number as i32);
+    crate::code_picture(
+        width, height, rows, *qp as u8, cb_offset, cr_offset, luma, cb, cr, file, luma_out, cb_out,
+        cr_out,
+    )
+    .map(|used| used as u64)
+}
+
+pub fn decode_picture(arguments: &mut [Argument]) -> Result<u64, Refusal> {
+    let [Bytes(file), Bytes(luma), Bytes(cb), Bytes(cr)] = arguments else {
+        unreachable!()
+    };
+    crate::decode_picture(file, luma, cb, cr).map(u64::from)
+}
+
 pub fn quality_sheet(arguments: &mut [Argument]) -> Result<u64, Refusal> {
     let [Number(width), Number(height), Bytes(original), Bytes(rebuilt), Bytes(map), Doubles(out)] =
         arguments

@@ -1,5 +1,6 @@
 //! Planes: coding one into a record file and decoding it again ("Plane and
-//! record file" of document 01, requests 01 and 02 of document 02).
+//! record file" of document 01, requests 01 and 02 of document 02); and what a
+//! decoder accepts, in colour too.
 
 use crate::macroblock::{column_and_row, BLOCKS};
 use crate::record::{self, Four, Layout, Luma, Macroblock, Sixteen};
@@ -78,40 +79,16 @@ pub fn code_plane_by(
     Ok(written.len())
 }
 
-/// Decodes a record file. Refusals: those of the head, LENGTH of the plane; by
-/// record FORM if its mark is cut, MARK, FORM if its rest is cut, NUMBER, SUM; FORM
-/// of bytes behind the last; and then by record QUANTIZER, MODE, RANGE.
+/// Decodes the luma plane of a record file, mono or colour. Refusals: those of the
+/// head, LENGTH of the plane, and those of `accepted`.
 pub fn decode_plane(file: &[u8], plane: &mut [u8]) -> Result<(), Refusal> {
     let layout = record::read_head(file)?;
     if plane.len() != layout.samples() {
         return Err(Refusal::LENGTH);
     }
-    let macroblocks = record::read_records(file, layout.macroblocks())
-        .map_err(|broken| broken.refusal(file.len()))?;
+    let macroblocks = layout.accepted(file)?;
     for (number, macroblock) in macroblocks.iter().enumerate() {
-        layout
-            .test_content(number, macroblock, plane)
-            .map_err(|refusal| Refusal {
-                place: 16 * number as u64 + refusal.place,
-                ..refusal
-            })?;
-    }
-
-    for (number, Macroblock { qp, luma }) in macroblocks.iter().enumerate() {
-        match luma {
-            Luma::Four(four) => {
-                for block in 0..16 {
-                    let here = layout.block(number, block);
-                    let samples = decoded(*qp, four, block, &here.neighbours(plane), here.flags())?;
-                    here.store(&samples, plane);
-                }
-            }
-            Luma::Sixteen(sixteen) => {
-                let here = layout.block(number, 0);
-                let samples = sixteen.decoded(*qp, &here.sides(plane))?;
-                here.store(&samples, plane);
-            }
-        }
+        layout.decode(number, macroblock, plane)?;
     }
     Ok(())
 }
@@ -133,9 +110,58 @@ fn decoded(
 }
 
 impl Layout {
-    /// A macroblock of the kind that is taken; its samples go into the rebuilt
-    /// plane.
-    fn code(
+    /// The macroblocks of a file whose head has this layout, or why a decoder takes
+    /// none of them. By record FORM if its mark is cut, MARK, FORM if its rest is cut,
+    /// NUMBER, SUM; FORM of bytes behind the last; and then by record QUANTIZER, MODE,
+    /// RANGE, with the macroblock's number and the block as place, and of a chroma
+    /// record with its first byte.
+    pub(crate) fn accepted(self, file: &[u8]) -> Result<Vec<Macroblock>, Refusal> {
+        let macroblocks = record::read_records(file, self.macroblocks())
+            .map_err(|broken| broken.refusal(file.len()))?;
+        let records: usize = macroblocks.iter().map(Macroblock::bytes).sum();
+        let mut behind = file.len() - records;
+        for (number, macroblock) in macroblocks.iter().enumerate() {
+            let at = |refusal: Refusal, first: usize| Refusal {
+                place: first as u64 + refusal.place,
+                ..refusal
+            };
+            self.test_content(number, macroblock)
+                .map_err(|refusal| at(refusal, 16 * number))?;
+            let chroma = behind + macroblock.kind().bytes();
+            self.test_chroma(number, macroblock)
+                .map_err(|refusal| at(refusal, chroma))?;
+            behind += macroblock.bytes();
+        }
+        Ok(macroblocks)
+    }
+
+    /// The luma of a macroblock into its plane.
+    pub(crate) fn decode(
+        self,
+        number: usize,
+        Macroblock { qp, luma, .. }: &Macroblock,
+        plane: &mut [u8],
+    ) -> Result<(), Refusal> {
+        match luma {
+            Luma::Four(four) => {
+                for block in 0..16 {
+                    let here = self.block(number, block);
+                    let samples = decoded(*qp, four, block, &here.neighbours(plane), here.flags())?;
+                    here.store(&samples, plane);
+                }
+            }
+            Luma::Sixteen(sixteen) => {
+                let here = self.block(number, 0);
+                let samples = sixteen.decoded(*qp, &here.sides(plane))?;
+                here.store(&samples, plane);
+            }
+        }
+        Ok(())
+    }
+
+    /// A macroblock of the kind that is taken, without chroma; its samples go into
+    /// the rebuilt plane.
+    pub(crate) fn code(
         self,
         number: usize,
         qp: u8,
@@ -160,7 +186,11 @@ impl Layout {
         } else {
             Luma::Four(coded)
         };
-        Macroblock { qp, luma }
+        Macroblock {
+            qp,
+            luma,
+            chroma: None,
+        }
     }
 
     /// A macroblock as 4x4, with the sum of its SADs; its samples go into the
@@ -192,20 +222,22 @@ impl Layout {
         (four, cost)
     }
 
-    /// QUANTIZER, MODE, RANGE of a macroblock; the place is the block. No answer
-    /// depends on what the plane holds.
-    fn test_content(
-        self,
-        number: usize,
-        macroblock: &Macroblock,
-        plane: &[u8],
-    ) -> Result<(), Refusal> {
+    /// QUANTIZER, MODE, RANGE of a macroblock's luma; the place is the block.
+    fn test_content(self, number: usize, macroblock: &Macroblock) -> Result<(), Refusal> {
         let qp = macroblock.qp;
         Quantizer::new(qp)?;
         match &macroblock.luma {
             Luma::Four(four) => self.test_four(number, qp, four),
-            Luma::Sixteen(sixteen) => sixteen.test(qp, &self.block(number, 0).sides(plane)),
+            Luma::Sixteen(sixteen) => sixteen.test(qp, &self.block(number, 0).present_sides()),
         }
+    }
+
+    /// The same of its chroma, if it has some; the QP is luma's, and the place 0.
+    fn test_chroma(self, number: usize, macroblock: &Macroblock) -> Result<(), Refusal> {
+        let Some(chroma) = &macroblock.chroma else {
+            return Ok(());
+        };
+        chroma.test(macroblock.qp, &self.chroma(number).present_sides())
     }
 
     /// All modes, then all ranges.
@@ -226,23 +258,43 @@ impl Layout {
         Ok(())
     }
 
+    /// A block of a macroblock in the luma plane.
     fn block(self, macroblock: usize, block: usize) -> Place {
         let (column, row) = column_and_row(block);
+        let Place { x, y, .. } = self.macroblock(16, macroblock);
         Place {
             layout: self,
-            x: (16 * (macroblock % self.width) + 4 * column) as isize,
-            y: (16 * (macroblock / self.width) + 4 * row) as isize,
+            side: 16,
+            x: x + 4 * column as isize,
+            y: y + 4 * row as isize,
         }
     }
 
-    /// When the block that holds a sample has its turn. `None` outside.
-    fn turn(self, x: isize, y: isize) -> Option<Turn> {
-        let x = usize::try_from(x).ok().filter(|x| *x < 16 * self.width)?;
-        let y = usize::try_from(y).ok().filter(|y| *y < 16 * self.height)?;
-        let (column, row) = (x / 16, y / 16);
+    /// A macroblock in a chroma plane.
+    pub(crate) fn chroma(self, macroblock: usize) -> Place {
+        self.macroblock(8, macroblock)
+    }
+
+    fn macroblock(self, side: usize, number: usize) -> Place {
+        Place {
+            layout: self,
+            side,
+            x: (side * (number % self.width)) as isize,
+            y: (side * (number / self.width)) as isize,
+        }
+    }
+
+    /// When the block that holds a sample of a plane has its turn; a macroblock of
+    /// this side has its blocks in the same order, as far as they go. `None` outside.
+    fn turn(self, side: usize, x: isize, y: isize) -> Option<Turn> {
+        let x = usize::try_from(x).ok().filter(|x| *x < side * self.width)?;
+        let y = usize::try_from(y)
+            .ok()
+            .filter(|y| *y < side * self.height)?;
+        let (column, row) = (x / side, y / side);
         Some(Turn {
             slice: row / self.rows,
-            number: 16 * (row * self.width + column) + BLOCKS[y % 16 / 4][x % 16 / 4],
+            number: 16 * (row * self.width + column) + BLOCKS[y % side / 4][x % side / 4],
         })
     }
 }
@@ -255,10 +307,12 @@ struct Turn {
     number: usize,
 }
 
-/// A block's first sample in its picture; that of block 0 is its macroblock's.
+/// A block's first sample in its plane; that of block 0 is its macroblock's.
 #[derive(Clone, Copy)]
-struct Place {
+pub(crate) struct Place {
     layout: Layout,
+    /// Of a macroblock in this plane: 16 in luma, 8 in chroma.
+    side: usize,
     x: isize,
     y: isize,
 }
@@ -267,7 +321,10 @@ impl Place {
     /// "Present" means "inside the picture, earlier, and in the same slice".
     /// Columns and rows count from the block's first sample.
     fn present(self, column: isize, row: isize) -> bool {
-        let turn = |column, row| self.layout.turn(self.x + column, self.y + row);
+        let turn = |column, row| {
+            let (x, y) = (self.x + column, self.y + row);
+            self.layout.turn(self.side, x, y)
+        };
         let own = turn(0, 0).expect("the block is inside");
         turn(column, row).is_some_and(|other| other.number < own.number && other.slice == own.slice)
     }
@@ -294,20 +351,13 @@ impl Place {
     }
 
     /// What stands beside the macroblock that begins here.
-    fn sides(self, plane: &[u8]) -> Sides {
-        let line = |place: fn(isize) -> (isize, isize)| {
-            let mut line = [0; 16];
-            for (along, sample) in line.iter_mut().enumerate() {
-                let (column, row) = place(along as isize);
-                *sample = self.sample(column, row, plane)?;
-            }
-            Some(line)
-        };
-        Sides {
-            above: line(|x| (x, -1)),
-            left: line(|y| (-1, y)),
-            corner: self.sample(-1, -1, plane),
-        }
+    pub(crate) fn sides<const N: usize>(self, plane: &[u8]) -> Sides<N> {
+        sides(|column, row| self.sample(column, row, plane))
+    }
+
+    /// What of it is present, for tests that no sample decides.
+    fn present_sides<const N: usize>(self) -> Sides<N> {
+        sides(|column, row| self.present(column, row).then_some(MISSING))
     }
 
     /// A neighbour, if it is present.
@@ -316,13 +366,13 @@ impl Place {
             .then(|| plane[self.index(column, row)])
     }
 
-    /// The samples of a square that begins here, by rows: 16 of a block, 256 of
-    /// a macroblock.
-    fn samples<const N: usize>(self, plane: &[u8]) -> [u8; N] {
+    /// The samples of a square that begins here, by rows: 16 of a block, 256 or 64
+    /// of a macroblock.
+    pub(crate) fn samples<const N: usize>(self, plane: &[u8]) -> [u8; N] {
         std::array::from_fn(|place| plane[self.inner(place, N.isqrt())])
     }
 
-    fn store<const N: usize>(self, samples: &[u8; N], plane: &mut [u8]) {
+    pub(crate) fn store<const N: usize>(self, samples: &[u8; N], plane: &mut [u8]) {
         for (place, &sample) in samples.iter().enumerate() {
             plane[self.inner(place, N.isqrt())] = sample;
         }
@@ -333,6 +383,24 @@ impl Place {
     }
 
     fn index(self, column: isize, row: isize) -> usize {
-        (self.y + row) as usize * 16 * self.layout.width + (self.x + column) as usize
+        (self.y + row) as usize * self.side * self.layout.width + (self.x + column) as usize
+    }
+}
+
+/// The sides of a macroblock by their samples, where column and row count from its
+/// first; a side with a missing one is none.
+fn sides<const N: usize>(sample: impl Fn(isize, isize) -> Option<u8>) -> Sides<N> {
+    let line = |place: fn(isize) -> (isize, isize)| {
+        let mut line = [0; N];
+        for (along, beside) in line.iter_mut().enumerate() {
+            let (column, row) = place(along as isize);
+            *beside = sample(column, row)?;
+        }
+        Some(line)
+    };
+    Sides {
+        above: line(|x| (x, -1)),
+        left: line(|y| (-1, y)),
+        corner: sample(-1, -1),
     }
 }

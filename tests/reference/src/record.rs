@@ -4,8 +4,11 @@
 use crate::Refusal;
 
 /// The bytes that the area for a coded file counts for each macroblock: those of
-/// the longer kind of record.
+/// the longer kind of luma record.
 pub const MACROBLOCK: usize = 527;
+
+/// And for each macroblock of a colour file as many more (request 05).
+pub const CHROMA: usize = 265;
 
 /// How a picture is cut: its width and height in macroblocks, and the rows of
 /// macroblocks of a slice. "A slice is a run of n whole macroblock rows; the last
@@ -30,8 +33,14 @@ impl Layout {
         self.width * self.height
     }
 
+    /// Of the luma plane.
     pub fn samples(self) -> usize {
         256 * self.macroblocks()
+    }
+
+    /// Of each chroma plane: 4:2:0 has one for four of luma.
+    pub fn chroma_samples(self) -> usize {
+        64 * self.macroblocks()
     }
 
     /// "The old head is one slice, and the coder writes it exactly if n is the
@@ -43,9 +52,14 @@ impl Layout {
         }
     }
 
-    /// The bytes that are lent to the coder for the file.
+    /// The bytes that are lent to the coder for the file of a plane.
     pub fn area(self) -> usize {
         self.head().bytes() + MACROBLOCK * self.macroblocks()
+    }
+
+    /// And for that of a colour picture.
+    pub fn colour_area(self) -> usize {
+        self.area() + CHROMA * self.macroblocks()
     }
 
     /// SIZE of the dimensions; then SIZE if the rows of a slice are 0 or above the
@@ -103,22 +117,27 @@ impl Head {
     }
 }
 
-/// The two kinds of a macroblock's record.
+/// The kinds of a macroblock's records: of its luma one of two, and in a colour
+/// file that of its chroma behind it.
 #[derive(Clone, Copy, Debug, PartialEq, Eq)]
 pub enum Kind {
     /// Intra 4x4.
     Four,
     /// Intra 16x16 (request 01).
     Sixteen,
+    /// Both chroma planes (request 05).
+    Chroma,
 }
 
 impl Kind {
-    pub const ALL: [Kind; 2] = [Kind::Four, Kind::Sixteen];
+    pub const ALL: [Kind; 3] = [Kind::Four, Kind::Sixteen, Kind::Chroma];
+    pub const LUMA: [Kind; 2] = [Kind::Four, Kind::Sixteen];
 
     pub fn mark(self) -> [u8; 2] {
         match self {
             Kind::Four => [0x4D, 0x42],
             Kind::Sixteen => [0x4D, 0x36],
+            Kind::Chroma => [0x4D, 0x43],
         }
     }
 
@@ -127,15 +146,18 @@ impl Kind {
         match self {
             Kind::Four => 527,
             Kind::Sixteen => 520,
+            Kind::Chroma => 265,
         }
     }
 }
 
-/// What the record of a macroblock says about it.
+/// What the records of a macroblock say about it.
 #[derive(Clone)]
 pub struct Macroblock {
     pub qp: u8,
     pub luma: Luma,
+    /// In a colour file.
+    pub chroma: Option<Chroma>,
 }
 
 #[derive(Clone)]
@@ -159,6 +181,24 @@ pub struct Sixteen {
     pub dc: [i16; 16],
     /// By block, in zigzag order without the first.
     pub ac: [[i16; 15]; 16],
+}
+
+#[derive(Clone, Debug, PartialEq, Eq)]
+pub struct Chroma {
+    /// Of Cb and of Cr.
+    pub offsets: [i8; 2],
+    /// For both.
+    pub mode: u8,
+    /// Of Cb and of Cr.
+    pub levels: [ChromaLevels; 2],
+}
+
+#[derive(Clone, Debug, PartialEq, Eq)]
+pub struct ChromaLevels {
+    /// By rows of the blocks.
+    pub dc: [i16; 4],
+    /// By block, these by rows; in zigzag order without the first.
+    pub ac: [[i16; 15]; 4],
 }
 
 /// The head that the coder writes. Refusals: SIZE.
@@ -207,7 +247,7 @@ pub fn file_with(
 ) -> Result<Vec<u8>, Refusal> {
     let mut file = head_of(head, layout)?;
     for (number, macroblock) in macroblocks.iter().enumerate() {
-        file.extend(macroblock.record(number as u16));
+        file.extend(macroblock.records(number as u16));
     }
     Ok(file)
 }
@@ -249,14 +289,14 @@ impl Broken {
 }
 
 /// The head or the record that begins at a byte of a file, by the marks and lengths
-/// of its kinds: "9 if the mark is cut, 11, 9 if the rest is cut, 12, 13; the head
+/// of the kinds that may stand there: "9 if the mark is cut, 11, 9 if the rest is cut, 12, 13; the head
 /// the same without 12", which expects no number.
-fn sound<K: Copy>(
-    file: &[u8],
+fn sound<'a, K: Copy>(
+    file: &'a [u8],
     first: usize,
-    kinds: [(K, [u8; 2], usize); 2],
+    kinds: &[(K, [u8; 2], usize)],
     expected: Option<usize>,
-) -> Result<(K, &[u8]), Broken> {
+) -> Result<(K, &'a [u8]), Broken> {
     let broken = |fault, bytes| Broken {
         fault,
         first,
@@ -264,8 +304,8 @@ fn sound<K: Copy>(
     };
     let rest = &file[first..];
     let mark = rest.first_chunk().ok_or(broken(Fault::CutMark, 0))?;
-    let known = kinds.into_iter().find(|(_, known, _)| known == mark);
-    let (kind, _, bytes) = known.ok_or(broken(Fault::Mark, 0))?;
+    let known = kinds.iter().find(|(_, known, _)| known == mark);
+    let &(kind, _, bytes) = known.ok_or(broken(Fault::Mark, 0))?;
     let whole = rest.get(..bytes).ok_or(broken(Fault::CutRest, bytes))?;
     if expected.is_some_and(|expected| usize::from(number(whole, 2)) != expected) {
         return Err(broken(Fault::Number, bytes));
@@ -279,19 +319,31 @@ fn sound<K: Copy>(
 /// The head that a file begins with, and its kind.
 pub fn sound_head(file: &[u8]) -> Result<(Head, &[u8]), Broken> {
     let kinds = Head::ALL.map(|head| (head, head.mark(), head.bytes()));
-    sound(file, 0, kinds, None)
+    sound(file, 0, &kinds, None)
 }
 
 /// So many macroblocks, behind the head of a file, which is sound; bytes behind the
-/// last record come at the end.
+/// last record come at the end. "A chroma record follows every luma record of a
+/// colour file. The file is colour exactly if its first macroblock has one."
 pub fn read_records(file: &[u8], count: usize) -> Result<Vec<Macroblock>, Broken> {
-    let kinds = Kind::ALL.map(|kind| (kind, kind.mark(), kind.bytes()));
+    let known = |kind: Kind| (kind, kind.mark(), kind.bytes());
+    let (luma, chroma) = (Kind::LUMA.map(known), [known(Kind::Chroma)]);
     let mut macroblocks = Vec::new();
+    let mut colour = false;
     let mut at = Head::of(file).expect("the head is sound").bytes();
     for expected in 0..count {
-        let (kind, record) = sound(file, at, kinds, Some(expected))?;
-        macroblocks.push(Macroblock::read(kind, record));
+        let (kind, record) = sound(file, at, &luma, Some(expected))?;
+        let mut macroblock = Macroblock::read(kind, record);
         at += record.len();
+        if expected == 0 {
+            colour = file[at..].starts_with(&Kind::Chroma.mark());
+        }
+        if colour {
+            let (_, record) = sound(file, at, &chroma, Some(expected))?;
+            macroblock.chroma = Some(Chroma::read(record));
+            at += record.len();
+        }
+        macroblocks.push(macroblock);
     }
     match at == file.len() {
         true => Ok(macroblocks),
@@ -304,6 +356,7 @@ pub fn read_records(file: &[u8], count: usize) -> Result<Vec<Macroblock>, Broken
 }
 
 impl Macroblock {
+    /// Of its luma record.
     pub fn kind(&self) -> Kind {
         match self.luma {
             Luma::Four(_) => Kind::Four,
@@ -311,7 +364,22 @@ impl Macroblock {
         }
     }
 
-    /// The record of macroblock `number`.
+    /// The bytes of all its records.
+    pub fn bytes(&self) -> usize {
+        let chroma = self.chroma.as_ref().map(|_| Kind::Chroma.bytes());
+        self.kind().bytes() + chroma.unwrap_or(0)
+    }
+
+    /// The records of macroblock `number`.
+    pub fn records(&self, number: u16) -> Vec<u8> {
+        let mut records = self.record(number);
+        if let Some(chroma) = &self.chroma {
+            records.extend(chroma.record(number));
+        }
+        records
+    }
+
+    /// The luma record of macroblock `number`.
     pub fn record(&self, number: u16) -> Vec<u8> {
         let mut record = self.kind().mark().to_vec();
         record.extend(number.to_be_bytes());
@@ -347,10 +415,44 @@ impl Macroblock {
                     std::array::from_fn(|index| level(38 + 30 * block, index))
                 }),
             }),
+            Kind::Chroma => unreachable!("it is a luma record"),
         };
         Macroblock {
             qp: record[4],
             luma,
+            chroma: None,
+        }
+    }
+}
+
+impl Chroma {
+    /// "A chroma record, 265 bytes, mark 4D 43, with number, both offsets (signed
+    /// bytes), mode, 64 levels of Cb then of Cr (4 DC, then 4 times 15 AC), sum."
+    pub fn record(&self, number: u16) -> Vec<u8> {
+        let mut record = Kind::Chroma.mark().to_vec();
+        record.extend(number.to_be_bytes());
+        record.extend(self.offsets.map(|offset| offset as u8));
+        record.push(self.mode);
+        for ChromaLevels { dc, ac } in &self.levels {
+            let levels = dc.iter().chain(ac.as_flattened());
+            record.extend(levels.flat_map(|level| level.to_be_bytes()));
+        }
+        with_sum(record)
+    }
+
+    /// The same backwards.
+    fn read(record: &[u8]) -> Chroma {
+        let level = |at: usize, index: usize| number(record, at + 2 * index) as i16;
+        let levels = |at: usize| ChromaLevels {
+            dc: std::array::from_fn(|index| level(at, index)),
+            ac: std::array::from_fn(|block| {
+                std::array::from_fn(|index| level(at + 8 + 30 * block, index))
+            }),
+        };
+        Chroma {
+            offsets: [record[4] as i8, record[5] as i8],
+            mode: record[6],
+            levels: [levels(7), levels(7 + 128)],
         }
     }
 }

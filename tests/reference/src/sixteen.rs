@@ -5,19 +5,20 @@ use crate::macroblock::column_and_row;
 use crate::record::Sixteen;
 use crate::{forward, levels, luma_dc_levels, luma_dc_values, rebuild_with_dc, Refusal};
 
-/// The samples beside a macroblock. A missing one is `None`.
+/// The samples beside a macroblock, whose side in its plane is N: 16 in luma, and
+/// 8 in chroma. A missing one is `None`.
 #[derive(Clone, Copy)]
-pub(crate) struct Sides {
+pub(crate) struct Sides<const N: usize> {
     /// From left to right.
-    pub(crate) above: Option<[u8; 16]>,
+    pub(crate) above: Option<[u8; N]>,
     /// Downwards.
-    pub(crate) left: Option<[u8; 16]>,
+    pub(crate) left: Option<[u8; N]>,
     pub(crate) corner: Option<u8>,
 }
 
 /// The prediction by rows, or nothing where there is no such mode or a sample
 /// that it needs is missing.
-fn predicted(sides: &Sides, mode: u8) -> Option<[u8; 256]> {
+fn predicted(sides: &Sides<16>, mode: u8) -> Option<[u8; 256]> {
     match mode {
         0 => sides.above.map(|above| macroblock(|x, _| above[x])),
         1 => sides.left.map(|left| macroblock(|_, y| left[y])),
@@ -63,7 +64,7 @@ fn plane(above: [u8; 16], left: [u8; 16], corner: u8) -> [u8; 256] {
 }
 
 /// The SAD of each mode by its number, or nothing for one that lacks a sample.
-pub(crate) fn sads(sides: &Sides, samples: &[u8; 256]) -> [Option<u32>; 4] {
+pub(crate) fn sads(sides: &Sides<16>, samples: &[u8; 256]) -> [Option<u32>; 4] {
     let sad = |prediction: [u8; 256]| {
         let pairs = prediction.iter().zip(samples);
         pairs.map(|(&p, &s)| u32::from(p.abs_diff(s))).sum()
@@ -73,7 +74,7 @@ pub(crate) fn sads(sides: &Sides, samples: &[u8; 256]) -> [Option<u32>; 4] {
 
 impl Sixteen {
     /// What a permitted mode makes of a macroblock's samples.
-    pub(crate) fn coded(qp: u8, sides: &Sides, mode: u8, samples: &[u8; 256]) -> Sixteen {
+    pub(crate) fn coded(qp: u8, sides: &Sides<16>, mode: u8, samples: &[u8; 256]) -> Sixteen {
         let prediction = predicted(sides, mode).expect("the mode is permitted");
         let mut values = [0; 16];
         let mut ac = [[0; 15]; 16];
@@ -95,7 +96,7 @@ impl Sixteen {
     }
 
     /// The samples that a decoder makes of it, by rows. MODE; RANGE.
-    pub(crate) fn decoded(&self, qp: u8, sides: &Sides) -> Result<[u8; 256], Refusal> {
+    pub(crate) fn decoded(&self, qp: u8, sides: &Sides<16>) -> Result<[u8; 256], Refusal> {
         let prediction = predicted(sides, self.mode).ok_or(Refusal::MODE)?;
         let values = self.values(qp)?;
         let mut samples = [0; 256];
@@ -111,7 +112,7 @@ impl Sixteen {
 
     /// MODE, then RANGE of the DC values, then RANGE of the AC, with 0 in the
     /// DC's place; the place is the block, 0 for the first two.
-    pub(crate) fn test(&self, qp: u8, sides: &Sides) -> Result<(), Refusal> {
+    pub(crate) fn test(&self, qp: u8, sides: &Sides<16>) -> Result<(), Refusal> {
         predicted(sides, self.mode).ok_or(Refusal::MODE)?;
         self.values(qp).map_err(|_| Refusal::range(0))?;
         for (block, ac) in self.ac.iter().enumerate() {
@@ -151,7 +152,7 @@ mod tests {
 
     const RAMP: [u8; 16] = [3, 6, 9, 12, 15, 18, 21, 24, 27, 30, 33, 36, 39, 42, 45, 48];
 
-    const ALL: Sides = Sides {
+    const ALL: Sides<16> = Sides {
         above: Some(RAMP),
         left: Some([100; 16]),
         corner: Some(0),

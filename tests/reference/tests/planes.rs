@@ -1,42 +1,14 @@
 //! Planes: the files that an outside coder made and the planes that an outside
 //! decoder rebuilt from them (`tests/outside`), and every refusal.
 
-use std::fs;
-use std::path::Path;
+mod common;
 
+use common::{data, form, names, refusal, wrong_mark, wrong_number, wrong_sum};
+use common::{LENGTH, SIZE, UNTOUCHED};
 use reference::extremes::{dc_edges, dc_levels_at};
 use reference::record::{self, read_head, read_records};
 use reference::record::{Fault, Head, Kind, Layout, Luma, Macroblock};
 use reference::{code_plane, code_plane_by, decode_plane, Refusal};
-
-const LENGTH: Refusal = refusal(1, 0);
-const SIZE: Refusal = refusal(8, 0);
-
-const fn refusal(number: u8, place: usize) -> Refusal {
-    Refusal {
-        number,
-        place: place as u64,
-    }
-}
-
-const fn form(place: usize) -> Refusal {
-    refusal(9, place)
-}
-
-const fn wrong_mark(place: usize) -> Refusal {
-    refusal(11, place)
-}
-
-const fn wrong_number(place: usize) -> Refusal {
-    refusal(12, place)
-}
-
-const fn wrong_sum(place: usize) -> Refusal {
-    refusal(13, place)
-}
-
-/// What outputs hold before a call.
-const UNTOUCHED: u8 = 0x5A;
 
 /// The area that is lent for the file of so many macroblocks in one slice.
 fn area(macroblocks: usize) -> usize {
@@ -49,25 +21,6 @@ fn sliced(width: usize, height: usize, rows: usize) -> Layout {
         height,
         rows,
     }
-}
-
-fn directory() -> std::path::PathBuf {
-    Path::new(env!("CARGO_MANIFEST_DIR")).join("../outside")
-}
-
-fn data(name: &str) -> Vec<u8> {
-    fs::read(directory().join(name)).unwrap_or_else(|error| panic!("{name}: {error}"))
-}
-
-/// The names of the outside files of a kind: in a folder of `tests/outside`,
-/// without the kind.
-fn names(folder: &str, kind: &str) -> Vec<String> {
-    let files = fs::read_dir(directory().join(folder)).expect("the folder is there");
-    let files = files.map(|file| file.expect("it can be read").file_name());
-    let files = files.filter_map(|file| file.into_string().ok());
-    files
-        .filter_map(|file| Some(format!("{folder}/{}", file.strip_suffix(kind)?)))
-        .collect()
 }
 
 /// The base's: 4x4 records only.
@@ -376,7 +329,7 @@ fn a_changed_byte_is_told_by_its_field() {
     for file in two_by_twos() {
         for place in 0..file.len() {
             // None of these makes a mark another one that is known.
-            for change in [1, 0x10, 0x80, 0xFF] {
+            for change in [2, 0x10, 0x80, 0xFF] {
                 let mut changed = file.clone();
                 changed[place] ^= change;
                 refuses(of_a_changed_byte(&file, place), &changed, 1024);
@@ -664,6 +617,7 @@ fn grey_in_slices(
         .map(|(qp, sixteen)| Macroblock {
             qp,
             luma: Luma::Sixteen(sixteen),
+            chroma: None,
         })
         .collect();
     record::file(sliced(2, 2, rows), &macroblocks).expect("it is a size")

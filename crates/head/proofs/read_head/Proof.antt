@@ -16,13 +16,13 @@ use Rattle.octets.specs.Numbers.{numberAt}
 use Rattle.octets.specs.Sum.{sumHolds}
 use Rattle.head.specs.Entry.{sizeHolds, rowsHold, longAt, widthAt, heightAt, rowsAt}
 use Rattle.head.specs.Heads.{oldLength, lengthBy}
-use Rattle.head.proofs.Heads.{length-some, head-cut, head-mark, head-short, head-sum, head-size, head-rows, head-legal}
+use Rattle.head.proofs.Heads.{length-some, tests-cut, tests-mark, tests-short, tests-sum, tests-size, tests-rows, tests-legal}
 use Rattle.head.proofs.read_head.Statement.{statement}
 use Rattle.head.proofs.read_head.Tie as tie
 
 returns : tie.Need-returns
 returns c =
-    let e = head-cut (c .before .before .args .file .now) (c .if1 .taken) in
+    let e = tests-cut (c .before .before .args .file .now) (c .if1 .taken) in
     record { says = says (sym e); width = simp e; height = simp e; rows = simp e; long = simp e }
 
 -- the head is as long as its mark says
@@ -37,7 +37,7 @@ returns-2 c =
     let L = c .before .before in
     let E = L .before .before in
     let file = E .before .before .args .file .now in
-    let e = head-mark file (E .if1 .left) (omega (arith, long-is L, c .before .if2 .taken)) in
+    let e = tests-mark file (E .if1 .left) (omega (arith, long-is L, c .before .if2 .taken)) in
     record { says = says (ap stop (c .of-fault .ensures ∙ ap (λ (n : ℕ). refusalOf Mark 0 n (length file)) (long-is L)) ∙ sym e); width = simp e; height = simp e; rows = simp e; long = simp e }
 
 -- the mark is a head's
@@ -50,7 +50,7 @@ returns-3 c =
     let L = M .before in
     let E = L .before .before in
     let file = E .before .before .args .file .now in
-    let e = head-short file (E .if1 .left) (marked M) (omega (arith, long-is L, c .if3 .taken)) in
+    let e = tests-short file (E .if1 .left) (marked M) (omega (arith, long-is L, c .if3 .taken)) in
     record { says = says (sym e); width = simp e; height = simp e; rows = simp e; long = simp e }
 
 -- there is room for it
@@ -99,7 +99,7 @@ returns-4 c =
     let L = M .before in
     let E = L .before .before in
     let file = E .before .before .args .file .now in
-    let e = head-sum file (E .if1 .left) (marked M) (roomy R) (sym (summed-up S) ∙ not-true _ (c .before .if4 .taken)) in
+    let e = tests-sum file (E .if1 .left) (marked M) (roomy R) (sym (summed-up S) ∙ not-true _ (c .before .if4 .taken)) in
     record { says = says (ap stop (c .of-fault2 .ensures ∙ ap (λ (n : ℕ). refusalOf Sum 0 n (length file)) (long-is L)) ∙ sym e); width = simp e; height = simp e; rows = simp e; long = simp e }
 
 sums : (c : tie.Else4) → let file = c .before .before .before .before .before .before .before .before .before .args .file .now in sumHolds (take (longAt file) file) ≡ true
@@ -126,7 +126,7 @@ returns-5 c =
     let R = T .before .before .before in
     let M = R .before in
     let E = M .before .before .before in
-    let e = head-size (E .before .before .args .file .now) (E .if1 .left) (marked M) (roomy R) (sums T) (sym (sized (c .before)) ∙ not-true _ (c .if5 .taken)) in
+    let e = tests-size (E .before .before .args .file .now) (E .if1 .left) (marked M) (roomy R) (sums T) (sym (sized (c .before)) ∙ not-true _ (c .if5 .taken)) in
     record { says = says (sym e); width = simp e; height = simp e; rows = simp e; long = simp e }
 
 -- and so are the rows
@@ -143,7 +143,7 @@ returns-6 c =
     let M = R .before in
     let E = M .before .before .before in
     let e =
-    head-rows (E .before .before .args .file .now) (E .if1 .left) (marked M) (roomy R) (sums T) (sym (sized (S .before)) ∙ not-false _ (S .if5 .left))
+    tests-rows (E .before .before .args .file .now) (E .if1 .left) (marked M) (roomy R) (sums T) (sym (sized (S .before)) ∙ not-false _ (S .if5 .left))
     (sym (rows-tested (c .before)) ∙ not-true _ (c .if6 .taken)) in
     record { says = says (sym e); width = simp e; height = simp e; rows = simp e; long = simp e }
 
@@ -155,7 +155,7 @@ returns-7 c =
     let M = R .before in
     let E = M .before .before .before in
     let e =
-    head-legal (E .before .before .args .file .now) (E .if1 .left) (marked M) (roomy R) (sums T) (sym (sized (S .before)) ∙ not-false _ (S .if5 .left))
+    tests-legal (E .before .before .args .file .now) (E .if1 .left) (marked M) (roomy R) (sums T) (sym (sized (S .before)) ∙ not-false _ (S .if5 .left))
     (sym (rows-tested (c .before)) ∙ not-false _ (c .if6 .left)) in
     record {
       says = says (sym e);

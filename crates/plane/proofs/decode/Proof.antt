@@ -6,8 +6,8 @@ use borrow.Author.Needs.{needs}
 use Rattle.refusal.specs.Number.{said}
 use Rattle.lists.specs.Chain.{chain}
 use Rattle.picture.proofs.Plane.{samples-fit}
-use Rattle.plane.specs.Decode.{recordIn, bodyTests, rebuiltFrom, cleared}
-use Rattle.plane.proofs.Entry.{plane-short, body-rest, records-passed, body-refused, body-done}
+use Rattle.plane.specs.Decode.{lumaIn, bodyTests, rebuiltFrom, cleared}
+use Rattle.plane.proofs.Entry.{plane-short, body-rest, body-refused, body-done}
 use Rattle.plane.proofs.decode.Statement.{statement}
 use Rattle.plane.proofs.decode.Tie as tie
 
@@ -26,21 +26,20 @@ returns c =
     body-refused _ _ (s .args .file .now) (s .args .plane .now) (plane-short _ _ (s .args .file .now) (s .args .plane .now) (c .if1 .taken))
 
 -- the whole chain comes to what the tests of the records answered
-rest : (c : tie.After-tested)
+rest : (c : tie.After-test-file)
     → let s = c .before .before .before .before .before in
-    said (c .tested .result) ≡ chain (bodyTests (s .args .layout) (s .args .place) (s .args .file .now) (s .args .plane .now))
+    said (c .test-file .result) ≡ chain (bodyTests (s .args .layout) (s .args .place) (s .args .file .now) (s .args .plane .now))
 rest c =
     let E = c .before in
     let s = E .before .before .before .before in
-    c .tested .ensures ∙ sym (body-rest (s .args .layout) (s .args .place) (s .args .file .now) (s .args .plane .now) (E .if1 .left))
+    c .test-file .ensures ∙ sym (body-rest (s .args .layout) (s .args .place) (s .args .file .now) (s .args .plane .now) (E .if1 .left))
 
 rebuild-plane-requires : tie.Need-rebuild-plane-requires
 rebuild-plane-requires c κs =
     let D = c .before .before .before .before .before in
     let T = D .before .before in
     let s = T .before .before .before .before .before in
-    let p = records-passed (s .args .layout) (s .args .place) (s .args .file .now) (s .args .plane .now) (sym (T .tested .ensures) ∙ ap said (D .enum-told .given .1)) in
-    ((s .pre, p .0, search needs), p .1)
+    (s .pre, sym (T .test-file .ensures) ∙ ap said (D .enum-told .given .1), search needs)
 
 returns-2 : tie.Need-returns-2
 returns-2 c =
@@ -59,7 +58,7 @@ returns-3 c =
     let s = E .before .before .before .before in
     let start = C .clear .ensures ∙ ap cleared (E .if1 .left) in
     body-done _ _ (s .args .file .now) (s .args .plane .now) (sym (rest T) ∙ ap said (D .enum-told .given .1))
-    (B .rebuild-plane .ensures ∙ ap (rebuiltFrom (s .args .layout) (recordIn (s .args .file .now) (s .args .place))) start)
+    (B .rebuild-plane .ensures ∙ ap (rebuiltFrom (s .args .layout) (lumaIn (s .args .file .now) (s .args .place))) start)
 
 pub decode-spec : {M : Type 1} → statement M
 decode-spec =

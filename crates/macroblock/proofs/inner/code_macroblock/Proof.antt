@@ -12,7 +12,7 @@ use Rattle.lists.specs.Bytes.{Bytes}
 use Rattle.lists.specs.Parts.{over}
 use Rattle.lists.proofs.Bytes.{bytes-known}
 use Rattle.whole.specs.Bounds.{Each}
-use Rattle.residual16.specs.Rebuilt.{sixteenSamples, dcFits, firstAc}
+use Rattle.residual_whole.specs.Rebuilt.{wholeSamples, dcFits, firstAc}
 use Rattle.picture.specs.Whole.{withWhole}
 use Rattle.picture.proofs.Plane.{samples-fit}
 use Rattle.macroblock4.proofs.Coding.{modes-small}
@@ -67,7 +67,7 @@ store-macroblock16-requires c κs =
     let e = whole-levels T in
     let among = s .pre .0 .0 in
     let kept = ap length (B .code-candidate4 .ensures .1 .1 .1) ∙ coded-step4 (s .args .layout) (among .sound .some) (s .args .m) (among .macroblock) (s .args .quantizer .qp) (s .args .plane .now) .long (s .args .rebuilt .now) ∙ s .pre .1 .1 in
-    ((among, s .pre .0 .1, r .samples, ap length e ∙ r .long, kept), (subst (Each 32768) (sym e) (r .small), ap (dcFits (s .args .quantizer .qp)) e ∙ r .dc, ap (firstAc (s .args .quantizer .qp)) e ∙ r .ac))
+    ((among, s .pre .0 .1, r .samples, ap length e ∙ r .long, kept), (subst (Each 32768) (sym e) (r .small), ap (dcFits 16 (s .args .quantizer .qp)) e ∙ r .dc, ap (firstAc 16 (s .args .quantizer .qp)) e ∙ r .ac))
 
 whole-over-requires : tie.Need-whole-over-requires
 whole-over-requires c κs =
@@ -101,9 +101,9 @@ returns c =
     let h = T .if1 .taken in
     let written = whole-written (s .args .layout) (s .args .quantizer .qp) (s .args .plane .now) (s .args .m) (s .args .rebuilt .now) sad (x .sad) (x .mode) (e ∙ x .coded) h in
     let long = ap length (record-whole (s .args .layout) (s .args .quantizer .qp) (s .args .plane .now) (s .args .m) (s .args .rebuilt .now) sad (x .sad) h) ∙ length-record-from16 (s .args .layout) (s .args .quantizer .qp) (s .args .plane .now) (s .args .m) (s .args .rebuilt .now) in
-    let block = sixteenSamples (s .args .quantizer .qp) (A .code-candidate16 .last .1 .1 .1 .1 .1 .1 .0) (W .winner .result .now) in
+    let block = wholeSamples 16 (s .args .quantizer .qp) (A .code-candidate16 .last .1 .1 .1 .1 .1 .1 .0) (W .winner .result .now) in
     let stored = sixteen-over l (s .pre .0 .0 .sound .some) m (s .pre .0 .0 .macroblock) qp original before (s .pre .1 .1) block (S .store-macroblock16 .ensures ∙ ap (withWhole 16 l m block) (B .code-candidate4 .ensures .1 .1 .1)) in
-    let step = stored16 x (stored ∙ ap (λ (levels : List ℤ). withWhole 16 l m (sixteenSamples qp (A .code-candidate16 .last .1 .1 .1 .1 .1 .1 .0) levels) before) e) in (
+    let step = stored16 x (stored ∙ ap (λ (levels : List ℤ). withWhole 16 l m (wholeSamples 16 qp (A .code-candidate16 .last .1 .1 .1 .1 .1 .1 .0) levels) before) e) in (
       O .whole-over .ensures .0 ∙ sym long,
       (O .whole-over .ensures .1 ∙ ap (λ (r : List ℕ). over r (s .args .file .now)) written, step ∙ sym (step-whole l qp original m before sad (x .sad) h)),
     )

@@ -6,7 +6,7 @@ use borrow.Author.Needs.{needs}
 use Rattle.whole.specs.Bounds.{Each}
 use Rattle.quantizer.proofs.Range.{built-legal, built-refused}
 use Rattle.sides.specs.Rules.{permitted}
-use Rattle.residual16.specs.Rebuilt.{dcFits, firstAc}
+use Rattle.residual_whole.specs.Rebuilt.{dcFits, firstAc}
 use Rattle.record.specs.Records.{qpIn}
 use Rattle.macroblock16.proofs.Contents.{Fine16, fine16, levels-small16}
 use Rattle.macroblock16.proofs.Making.{whole-made}
@@ -62,8 +62,8 @@ store-macroblock16-requires c κs =
       ),
       (
         subst (Each 32768) (sym e) (levels-small16 (s .args .part .now)),
-        (λ i. dcFits (number K i) (e i)) ∙ f .dc,
-        (λ i. firstAc (number K i) (e i)) ∙ f .ac,
+        (λ i. dcFits 16 (number K i) (e i)) ∙ f .dc,
+        (λ i. firstAc 16 (number K i) (e i)) ∙ f .ac,
       ),
     )
 

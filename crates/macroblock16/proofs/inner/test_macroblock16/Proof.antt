@@ -9,7 +9,7 @@ use Rattle.whole.specs.Bounds.{Each}
 use Rattle.quantizer.specs.Range.{highest}
 use Rattle.quantizer.proofs.Range.{built-legal, built-refused}
 use Rattle.sides.specs.Rules.{permitted}
-use Rattle.residual16.specs.Rebuilt.{dcFits, firstAc}
+use Rattle.residual_whole.specs.Rebuilt.{dcFits, firstAc}
 use Rattle.record.specs.Records.{qpIn, wholeModeIn}
 use Rattle.picture.specs.Whole.{flagsRound}
 use Rattle.picture.proofs.Plane.{samples-fit}
@@ -69,8 +69,8 @@ allowed c = sym (mode-tested (c .before)) ∙ not-false _ (c .if1 .left)
 
 -- ---- the DC values
 
-dc-fits-requires : tie.Need-dc-fits-requires
-dc-fits-requires c κs =
+dc-fits16-requires : tie.Need-dc-fits16-requires
+dc-fits16-requires c κs =
     let W = c .before .before in
     let P = W .before .before .before in
     let part = told P .args .part .now in
@@ -79,14 +79,14 @@ dc-fits-requires c κs =
     (omega (arith, q .0, q .1), search needs, subst (Each 32768) (sym e) (levels-small16 part))
 
 -- the mode's test, from behind that of the DC values
-abbrev moded : tie.After-dc-fits → tie.Else1
+abbrev moded : tie.After-dc-fits16 → tie.Else1
 moded c = c .before .before .before .before .before
 
-abbrev parted : tie.After-dc-fits → tie.Start
+abbrev parted : tie.After-dc-fits16 → tie.Start
 parted c = told (moded c .before)
 
-dc-tested : (c : tie.After-dc-fits) → c .dc-fits .result ≡ dcFits (qpIn (parted c .args .part .now)) (wholeLevelsIn (parted c .args .part .now))
-dc-tested c = c .dc-fits .ensures ∙ (λ i. dcFits (legal (behind (moded c .before)) .0 i) (c .before .before .before .whole-levels .ensures i))
+dc-tested : (c : tie.After-dc-fits16) → c .dc-fits16 .result ≡ dcFits 16 (qpIn (parted c .args .part .now)) (wholeLevelsIn (parted c .args .part .now))
+dc-tested c = c .dc-fits16 .ensures ∙ (λ i. dcFits 16 (legal (behind (moded c .before)) .0 i) (c .before .before .before .whole-levels .ensures i))
 
 mul-t21 : tie.Need-mul-t21
 mul-t21 c = let f = small (parted (c .before)) in omega arith
@@ -97,7 +97,7 @@ returns-3 c =
     let E = moded D in
     sym (dc-far _ _ (parted D .args .part .now) (legal (behind (E .before)) .1) (allowed E) (sym (dc-tested D) ∙ not-true _ (c .if2 .taken)))
 
-fine : (c : tie.Else2) → dcFits (qpIn (parted (c .before) .args .part .now)) (wholeLevelsIn (parted (c .before) .args .part .now)) ≡ true
+fine : (c : tie.Else2) → dcFits 16 (qpIn (parted (c .before) .args .part .now)) (wholeLevelsIn (parted (c .before) .args .part .now)) ≡ true
 fine c = sym (dc-tested (c .before)) ∙ not-false _ (c .if2 .left)
 
 -- ---- the AC levels
@@ -108,16 +108,16 @@ first-ac-requires c κs =
     let part = parted D .args .part .now in
     let q = legal (behind (moded D .before)) in
     let e = D .before .before .before .whole-levels .ensures in
-    (omega (arith, q .0, q .1), search needs, subst (Each 32768) (sym e) (levels-small16 part))
+    (tt, omega (arith, q .0, q .1), search needs, subst (Each 32768) (sym e) (levels-small16 part))
 
 abbrev ranged : tie.After-first-ac → tie.Else2
 ranged c = c .before .before
 
 ac-tested : (c : tie.After-first-ac)
-    → c .first-ac .result ≡ firstAc (qpIn (parted (ranged c .before) .args .part .now)) (wholeLevelsIn (parted (ranged c .before) .args .part .now))
+    → c .first-ac .result ≡ firstAc 16 (qpIn (parted (ranged c .before) .args .part .now)) (wholeLevelsIn (parted (ranged c .before) .args .part .now))
 ac-tested c =
     let D = ranged c .before in
-    c .first-ac .ensures ∙ (λ i. firstAc (legal (behind (moded D .before)) .0 i) (D .before .before .before .whole-levels .ensures i))
+    c .first-ac .ensures ∙ (λ i. firstAc 16 (legal (behind (moded D .before)) .0 i) (D .before .before .before .whole-levels .ensures i))
 
 mul-t25 : tie.Need-mul-t25
 mul-t25 c = let f = small (parted (ranged (c .before) .before)) in omega arith
@@ -157,7 +157,7 @@ test-macroblock16-spec =
     (λ c. search needs)
     (λ c κs. search needs)
     (λ c. search needs)
-    dc-fits-requires
+    dc-fits16-requires
     mul-t21
     returns-3
     (λ c. search needs)

@@ -36,11 +36,11 @@ abbrev μ-blocks2 : tie.MeasureT-blocks2
 blocks2-holds : tie.Need-blocks2-holds Inv-loop μ-loop Inv-blocks2 μ-blocks2
 blocks2-holds c = (search needs, searching-none _ _)
 
-ordered-requires : tie.Need-ordered-requires Inv-loop μ-loop Inv-blocks2 μ-blocks2
-ordered-requires c κs = search needs
+rescaled-in-zigzag-requires : tie.Need-rescaled-in-zigzag-requires Inv-loop μ-loop Inv-blocks2 μ-blocks2
+rescaled-in-zigzag-requires c κs = search needs
 
 loop-holds : tie.Need-loop-holds Inv-loop μ-loop Inv-blocks2 μ-blocks2
-loop-holds c = (c .before .before .blocks2 .inv .0, c .ordered .ensures, searching-none _ _)
+loop-holds c = (c .before .before .blocks2 .inv .0, c .rescaled-in-zigzag .ensures, searching-none _ _)
 
 mul-inside : tie.Need-mul-inside Inv-loop μ-loop Inv-blocks2 μ-blocks2
 mul-inside c = search needs
@@ -106,7 +106,7 @@ first-range-spec =
     Inv-blocks2
     μ-blocks2
     blocks2-holds
-    ordered-requires
+    rescaled-in-zigzag-requires
     loop-holds
     mul-inside
     array-copy-out-inside

@@ -51,7 +51,7 @@ left c =
     let L = c .before in
     let s = L .before .before .before .before .before .before .before .before .before .before .before .before in
     let r = room-left (s .args .layout) (s .args .quantizer .qp) (s .args .plane .now) _ _ (L .loop .inv) (c .loop-test .taken) in
-    let e = same-area (s .args .layout) (s .args .quantizer .qp) (s .args .plane .now) _ _ (L .loop .inv) in
+    let e = same-area _ (L .loop .inv .front) in
     omega (arith, r, e)
 
 part-code-macroblock-start : tie.Need-part-code-macroblock-start Inv-loop μ-loop
@@ -78,7 +78,7 @@ add-place c =
     let n = length-record-from (s .args .layout) (s .args .quantizer .qp) (s .args .plane .now) (L .loop .m) (L .loop .rebuilt) in
     let p = length-to (s .args .layout) (s .args .quantizer .qp) (s .args .plane .now) (s .args .rebuilt .now) (L .loop .m) in
     let f = small s in
-    record { fits = omega (arith, C .code-macroblock .ensures .0, n, L .loop .inv .next, p, f, I .loop-test .taken) }
+    record { fits = omega (arith, C .code-macroblock .ensures .0, n, L .loop .inv .front .next, p, f, I .loop-test .taken) }
 
 loop-again : tie.Need-loop-again Inv-loop μ-loop
 loop-again c =
@@ -102,7 +102,7 @@ same-length c =
     let L = c .before in
     let W = L .before .before .before .before in
     let s = W .before .before .before .before .before .before .before .before in
-    let e = same-area (s .args .layout) (s .args .quantizer .qp) (s .args .plane .now) _ _ (L .loop .inv) in
+    let e = same-area _ (L .loop .inv .front) in
     let h = ap length (W .write-head .ensures .0) ∙ length-over (headFor (s .args .layout)) (s .args .file .now) (omega (arith, length-head (s .args .layout .width) (s .args .layout .height) (s .args .layout .rows), s .pre .1 .0)) in
     omega (arith, e, h)
 

@@ -11,9 +11,9 @@ use Rattle.lists.proofs.Parts.{growing-all, growing-part, growing-done, copied}
 use Rattle.record.proofs.inner.write_front.Statement.{statement}
 use Rattle.record.proofs.inner.write_front.Tie as tie
 
--- mark, number and QP
-abbrev started : (mark number qp : ℕ) → List ℕ
-started mark number qp = mark / 256 ∷ mark % 256 ∷ number / 256 ∷ number % 256 ∷ qp ∷ []
+-- mark, number and the byte next to it
+abbrev started : (mark number next : ℕ) → List ℕ
+started mark number next = mark / 256 ∷ mark % 256 ∷ number / 256 ∷ number % 256 ∷ next ∷ []
 
 -- five stores, and the part behind them
 module _ (d v : List ℕ) (five : length v ≡ 5) where
@@ -61,21 +61,21 @@ part-copy-end c = search needs
 copy-requires : tie.Need-copy-requires
 copy-requires c κs =
     let s = c .before .before .before in
-    rw (rest-long (s .args .front .now) (started (s .args .kind .mark) (s .args .number) (s .args .qp)) refl (omega (arith, s .pre .0, s .pre .1)))
+    rw (rest-long (s .args .front .now) (started (s .args .kind .mark) (s .args .number) (s .args .next)) refl (omega (arith, s .pre .0, s .pre .1)))
     (omega (arith, s .pre .0, s .pre .1))
 
 same-length : tie.Need-same-length
 same-length c =
     let s = c .before .before .before .before .before .before in
     let a = s .args in
-    c .before .front .given .1 ∙ length-sets (a .front .now) 0 (started (a .kind .mark) (a .number) (a .qp))
+    c .before .front .given .1 ∙ length-sets (a .front .now) 0 (started (a .kind .mark) (a .number) (a .next))
 
 returns : tie.Need-returns
 returns c =
     let C = c .before .before in
     let a = C .before .before .before .before .args in
     let p = C .before .before .before .before .pre in
-    behind (a .front .now) (started (a .kind .mark) (a .number) (a .qp)) refl (a .more .now) (p .1 ∙ sym (p .0)) (C .copy .ensures .1) (c .before .front .given .1)
+    behind (a .front .now) (started (a .kind .mark) (a .number) (a .next)) refl (a .more .now) (p .1 ∙ sym (p .0)) (C .copy .ensures .1) (c .before .front .given .1)
 
 pub write-front-spec : {M : Type 1} → statement M
 write-front-spec =

@@ -19,16 +19,14 @@ put-plane-requires c κs =
 returns : tie.Need-returns
 returns c =
     let p = c .before .before in
-    let r = p .before .before in
-    let s = r .before .before .before .before .before .before in
-    vertical-is (s .args .neighbours .now) _ _ (s .pre .1) (r .before .match .keys1) (r .sixteen-of .ensures) (p .put-rows .ensures)
+    let s = p .before .before .before .before .before .before .before in
+    vertical-is (s .args .neighbours .now) _ _ (s .pre .1) (p .before .before .match .keys1) (p .put-side .ensures)
 
 returns-2 : tie.Need-returns-2
 returns-2 c =
     let p = c .before .before in
-    let r = p .before .before in
-    let s = r .before .before .before .before .before .before in
-    horizontal-is (s .args .neighbours .now) _ _ (s .pre .1) (r .before .match .keys2) (r .sixteen-of2 .ensures) (p .put-columns .ensures)
+    let s = p .before .before .before .before .before .before .before in
+    horizontal-is (s .args .neighbours .now) _ _ (s .pre .1) (p .before .before .match .keys2) (p .put-side2 .ensures)
 
 returns-3 : tie.Need-returns-3
 returns-3 c =
@@ -57,8 +55,6 @@ fill-spec =
     (λ c. search needs)
     (λ c. search needs)
     (λ c. search needs)
-    (λ c κs. search needs)
-    (λ c κs. search needs)
     (λ c κs. search needs)
     (λ c κs. search needs)
     (λ c κs. search needs)

@@ -6,22 +6,25 @@ use reference::calls::{word, Argument};
 use std::ops::Range;
 
 /// The parts of a frame. `crates/vectors/src/frame.rt` has the same.
-const VALUES: Range<usize> = 0..32;
-const WORD: Range<usize> = 32..40;
-const LENGTHS: Range<usize> = 40..52;
-const LIST: Range<usize> = 52..120;
-const MADE: Range<usize> = 120..188;
-const SECOND: Range<usize> = 188..205;
-const FIRST: Range<usize> = 205..8647;
-const OUT: Range<usize> = 8647..17089;
-const MORE: Range<usize> = 17089..21185;
-const END: usize = 21185;
+const VALUES: Range<usize> = 0..48;
+const WORD: Range<usize> = 48..56;
+const LENGTHS: Range<usize> = 56..74;
+const LIST: Range<usize> = 74..142;
+const MADE: Range<usize> = 142..210;
+const SECOND: Range<usize> = 210..1234;
+const THIRD: Range<usize> = 1234..2258;
+const FIRST: Range<usize> = 2258..14940;
+const OUT: Range<usize> = 14940..27622;
+const MORE: Range<usize> = 27622..31718;
+const EXTRA: Range<usize> = 31718..32742;
+const LAST: Range<usize> = 32742..33766;
+const END: usize = 33766;
 
 /// The rooms of the bytes lent, and of the bytes expected, each with the number of its length.
-const BYTES_LENT: [(usize, Range<usize>); 2] = [(0, FIRST), (1, SECOND)];
-const NUMBERS_LENT: [(usize, Range<usize>); 1] = [(2, LIST)];
-const NUMBERS_OUT: [(usize, Range<usize>); 1] = [(3, MADE)];
-const BYTES_OUT: [(usize, Range<usize>); 2] = [(4, OUT), (5, MORE)];
+const BYTES_LENT: [(usize, Range<usize>); 3] = [(0, FIRST), (1, SECOND), (2, THIRD)];
+const NUMBERS_LENT: [(usize, Range<usize>); 1] = [(3, LIST)];
+const NUMBERS_OUT: [(usize, Range<usize>); 1] = [(4, MADE)];
+const BYTES_OUT: [(usize, Range<usize>); 4] = [(5, OUT), (6, MORE), (7, EXTRA), (8, LAST)];
 
 /// All requests of a function, in steps.
 pub fn recording(function: &Function) -> Vec<u8> {
@@ -51,13 +54,13 @@ fn asked(function: &Function, lent: &[Argument], before: &[u8]) -> Vec<u8> {
     for argument in inputs {
         match argument {
             Argument::Number(number) => {
-                let at = values.next().expect("there is room for four");
+                let at = values.next().expect("there is room for six");
                 frame[at..at + 8].copy_from_slice(&number.to_le_bytes());
             }
             argument => put(&mut frame, argument, &mut bytes, &mut numbers),
         }
     }
-    for room in [MADE, OUT, MORE] {
+    for room in [MADE, OUT, MORE, EXTRA, LAST] {
         frame[room].fill(BEFORE);
     }
     let [mut bytes, mut numbers] = [BYTES_OUT.iter(), NUMBERS_OUT.iter()];
@@ -145,7 +148,9 @@ mod tests {
         let mut expected = vec![BEFORE; END];
         expected[..16].copy_from_slice(&[28, 0, 0, 0, 0, 0, 0, 0, 0, 0, 0, 0, 0, 0, 0, 0]);
         expected[WORD].copy_from_slice(&(256 * (2 + 16 * 160_u64)).to_le_bytes());
-        expected[LENGTHS].copy_from_slice(&[13, 0, 16, 0, 90, 90, 16, 0, 16, 0, 90, 90]);
+        let lengths = [13, 16, 0x5A5A, 0x5A5A, 16, 16, 0x5A5A, 0x5A5A, 0x5A5A];
+        let lengths = lengths.map(u16::to_le_bytes);
+        expected[LENGTHS].copy_from_slice(lengths.as_flattened());
         expected[FIRST][..13].fill(77);
         expected[SECOND][..16].fill(138);
         expected[MADE][..64].fill(0);

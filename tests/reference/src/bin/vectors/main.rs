@@ -7,6 +7,7 @@
 mod blocks;
 mod frame;
 mod numbers;
+mod pictures;
 mod planes;
 mod request;
 
@@ -35,7 +36,7 @@ const fn function(
     }
 }
 
-const ALL: [Function; 17] = [
+const ALL: [Function; 19] = [
     function("fb_predict", 1, calls::predict, blocks::predict),
     function("fb_choose", 1, calls::choose, blocks::choose),
     function("fb_forward", 1, calls::forward, numbers::forward),
@@ -91,6 +92,18 @@ const ALL: [Function; 17] = [
         1,
         calls::decode_plane,
         planes::decode_plane,
+    ),
+    function(
+        "fb_code_picture",
+        4,
+        calls::code_picture,
+        pictures::code_picture,
+    ),
+    function(
+        "fb_decode_picture",
+        3,
+        calls::decode_picture,
+        pictures::decode_picture,
     ),
     function("quantizer", 0, numbers::quantizer, numbers::every_byte),
 ];

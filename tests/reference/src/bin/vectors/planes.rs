@@ -1,6 +1,7 @@
 //! The functions on planes and record files.
 
 use crate::numbers::QPS;
+use crate::pictures::{self, first_refused};
 use crate::request::{held, with_each, wrong_lengths};
 use reference::calls::Argument::{self, Bytes, Number};
 use reference::extremes::{dc_edges, dc_levels_at};
@@ -14,7 +15,7 @@ const SLICES: &str = "slices";
 
 /// The names of the outside files of a kind in a folder: `rec`, a record file; `plane`, what an outside decoder rebuilt of it;
 /// `original`, the plane that an outside coder made the file of, at the QP that its name ends with.
-fn names(folder: &str, kind: &str) -> Vec<String> {
+pub fn names(folder: &str, kind: &str) -> Vec<String> {
     let files = std::fs::read_dir(format!("{OUTSIDE}/{folder}")).expect("there is tests/outside");
     let paths = files.map(|file| file.expect("it can be read").path());
     let of_kind = paths.filter(|path| path.extension().is_some_and(|other| other == kind));
@@ -26,12 +27,12 @@ fn names(folder: &str, kind: &str) -> Vec<String> {
 
 const OUTSIDE: &str = concat!(env!("CARGO_MANIFEST_DIR"), "/../outside");
 
-fn outside(name: &str, kind: &str) -> Vec<u8> {
+pub fn outside(name: &str, kind: &str) -> Vec<u8> {
     std::fs::read(format!("{OUTSIDE}/{name}.{kind}")).expect("it is in tests/outside")
 }
 
 /// Width, height and the rows of a slice.
-fn layout([width, height, rows]: [usize; 3]) -> Layout {
+pub fn layout([width, height, rows]: [usize; 3]) -> Layout {
     Layout {
         width,
         height,
@@ -192,7 +193,7 @@ fn drawn() -> Vec<Vec<Argument>> {
 type Rule = fn(usize, usize) -> usize;
 
 /// A plane by a rule.
-fn plain(layout: Layout, sample: Rule) -> Vec<u8> {
+pub fn plain(layout: Layout, sample: Rule) -> Vec<u8> {
     let stride = 16 * layout.width;
     let places = 0..layout.samples();
     places
@@ -201,7 +202,7 @@ fn plain(layout: Layout, sample: Rule) -> Vec<u8> {
 }
 
 /// Holds what the reference leaves in the outputs to these.
-fn left(call: reference::calls::Call, request: &[Argument], expected: &[Vec<u8>]) {
+pub fn left(call: reference::calls::Call, request: &[Argument], expected: &[Vec<u8>]) {
     let mut left = request.to_vec();
     call(&mut left).expect("it is a good request");
     let expected: Vec<Argument> = expected.iter().cloned().map(Bytes).collect();
@@ -211,7 +212,7 @@ fn left(call: reference::calls::Call, request: &[Argument], expected: &[Vec<u8>]
 // ---- reading a head
 
 /// The head of one slice of any size.
-fn head(width: u16, height: u16) -> Vec<u8> {
+pub fn head(width: u16, height: u16) -> Vec<u8> {
     Head::Old.written(width, height, height)
 }
 
@@ -251,14 +252,14 @@ pub fn read_head() -> Vec<Vec<Argument>> {
     files.map(|file| vec![Bytes(file)]).collect()
 }
 
-fn changed(file: &[u8], place: usize, byte: u8) -> Vec<u8> {
+pub fn changed(file: &[u8], place: usize, byte: u8) -> Vec<u8> {
     let mut file = file.to_vec();
     file[place] = byte;
     file
 }
 
 /// With the sum of a record's earlier bytes in its last two.
-fn mended(mut record: Vec<u8>) -> Vec<u8> {
+pub fn mended(mut record: Vec<u8>) -> Vec<u8> {
     let end = record.len() - 2;
     let sum: u16 = record[..end].iter().map(|&byte| u16::from(byte)).sum();
     record[end..].copy_from_slice(&sum.to_be_bytes());
@@ -300,6 +301,7 @@ pub fn decode_plane() -> Vec<Vec<Argument>> {
         dc_ends(),
         back(),
         as_outside.collect(),
+        pictures::decode_luma(),
     ]
     .concat()
 }
@@ -317,6 +319,7 @@ fn fields() -> Vec<Vec<Argument>> {
             Macroblock {
                 qp,
                 luma: Luma::Four(Four { modes, levels }),
+                chroma: None,
             }
             .record(number)
         };
@@ -411,7 +414,11 @@ fn modes_in_slices() -> Vec<Vec<Argument>> {
                 modes,
                 levels: [[0; 16]; 16],
             });
-            Macroblock { qp: 20, luma }
+            Macroblock {
+                qp: 20,
+                luma,
+                chroma: None,
+            }
         })
     });
     let all: Vec<Macroblock> = whole.chain(fours).collect();
@@ -429,14 +436,8 @@ fn modes_in_slices() -> Vec<Vec<Argument>> {
     refused_first((1..=3).flat_map(in_slices))
 }
 
-/// Those that are refused stand first: their outputs are alike.
 fn refused_first(requests: impl Iterator<Item = Vec<Argument>>) -> Vec<Vec<Argument>> {
-    let refused = |request: &Vec<Argument>| {
-        let mut request = request.clone();
-        reference::calls::decode_plane(&mut request).is_err()
-    };
-    let (refused, decoded): (Vec<_>, Vec<_>) = requests.partition(refused);
-    [refused, decoded].concat()
+    first_refused(reference::calls::decode_plane, requests)
 }
 
 /// Bytes behind the last record: one, a mark, one record more of either kind, and of both; also where the sum of the first record is
@@ -467,7 +468,7 @@ fn surplus() -> Vec<Vec<Argument>> {
 fn other_marks() -> Vec<Vec<Argument>> {
     let marked = blanks().map(|macroblock| {
         let mut record = macroblock.record(0);
-        let other = Kind::ALL
+        let other = Kind::LUMA
             .into_iter()
             .find(|&kind| kind != macroblock.kind());
         let other = other.expect("there are two kinds");
@@ -501,11 +502,12 @@ fn no_marks() -> Vec<Vec<Argument>> {
 }
 
 /// A macroblock of each kind without content.
-fn blanks() -> [Macroblock; 2] {
+pub fn blanks() -> [Macroblock; 2] {
     let (modes, levels) = ([2; 16], [[0; 16]; 16]);
     let four = Macroblock {
         qp: 28,
         luma: Luma::Four(Four { modes, levels }),
+        chroma: None,
     };
     [four, sixteen(28, 2, [0; 16], [[0; 15]; 16])]
 }
@@ -514,6 +516,7 @@ fn sixteen(qp: u8, mode: u8, dc: [i16; 16], ac: [[i16; 15]; 16]) -> Macroblock {
     Macroblock {
         qp,
         luma: Luma::Sixteen(Sixteen { mode, dc, ac }),
+        chroma: None,
     }
 }
 

@@ -1,0 +1,12 @@
+pub mod Agree
+pub mod CodedFrame
+pub mod CodingFrame
+pub mod Colour
+pub mod Entry
+pub mod FrameOutcome
+pub mod FrameRest
+pub mod FrameStart
+pub mod Start
+pub mod Tested
+pub mod Trip
+pub mod Unique

@@ -1,0 +1,10 @@
+pub mod CodedRecord
+pub mod Contents
+pub mod Halves
+pub mod Looks
+pub mod Making
+pub mod Missing
+pub mod Offsets
+pub mod Own
+pub mod Unique
+pub mod Witness

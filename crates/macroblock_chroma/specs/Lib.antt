@@ -1,0 +1,4 @@
+pub mod Code
+pub mod Content
+pub mod Fine
+pub mod Rebuild

@@ -1,0 +1,28 @@
+-- A macroblock predicted whole, from samples to levels: "with the luma DC path" (02, Req 01), or chroma's, "the DC path, and AC blocks"
+-- (02, Req 05; 01, "Transform, quantizer, rescaling"). Assumes nothing.
+use mathlib.Core.Bool.{cond}
+use mathlib.Core.List.{List, _++_}
+use Prim.Native.Nat.{ℕ}
+use lib.Dec.{eqb}
+use lib.IntN.{ℤ}
+use Rattle.lists.specs.Parts.{parts}
+use Rattle.block.specs.Block.{residualOf}
+use Rattle.dc.specs.Dc.{dcOf, lumaLevels, chromaLevels}
+use Rattle.dc.specs.Path.{acOf}
+use Rattle.residual_whole.specs.Area.{blocksOf, partIn, rasterBlock}
+
+-- what the prediction lacks in block b
+unfoldable pub residualIn : (s : ℕ) → (samples prediction : List ℕ) → (b : ℕ) → List ℤ
+residualIn s samples prediction b = residualOf (partIn s b samples) (partIn s b prediction)
+
+-- "the 16 DC values stand in a 4x4 block by the row and column of their blocks in the macroblock", chroma's 4 in "2x2 .., raster order"
+unfoldable pub wholeDc : (s : ℕ) → (samples prediction : List ℕ) → List ℤ
+wholeDc s samples prediction = dcOf (blocksOf s) (λ place. residualIn s samples prediction (rasterBlock s place))
+
+-- their levels by the DC path of the side
+unfoldable pub dcLevels : (s qp : ℕ) → List ℤ → List ℤ
+dcLevels s qp dc = cond (eqb s 16) (lumaLevels qp dc) (chromaLevels qp dc)
+
+-- "16 DC levels, 16 times 15 AC levels"; "64 levels .. (4 DC, then 4 times 15 AC)"
+unfoldable pub wholeLevels : (s qp : ℕ) → (samples prediction : List ℕ) → List ℤ
+wholeLevels s qp samples prediction = dcLevels s qp (wholeDc s samples prediction) ++ parts (blocksOf s) (λ b. acOf qp (residualIn s samples prediction b))
