@@ -1,31 +1,32 @@
 -- Neighbours that are bytes predict bytes, 64 of them in every permitted mode, and the mode chosen for both planes is a permitted one.
 --     predicted-bytes, predicted-long     of every mode: its samples are bytes; where the flags permit it they are 64
 --     for-both-low                        of the chosen mode: the sum of both SADs has 16 bits
---     for-both-permitted, for-both-bytes, for-both-long, for-both-cost     the same of what a choice for both answers and leaves
+--     for-both-permitted                  what a choice for both answers is a mode, and the flags permit it
 -- Assumes nothing.
 use mathlib.Core.Path.{_≡_, sym, ap, _∙_}
 use mathlib.Core.Bool.{Bool, true, false, cond}
 use mathlib.Core.List.{List}
-use Prim.Native.Nat.{ℕ, zero, suc, _*_, _/_, _<_, _≤_}
+use Prim.Native.Nat.{ℕ, _*_, _/_, _<_, _≤_}
 use native.Mathlib.Omega.{arith}
-use lib.Dec.{eqb, ltb}
+use lib.Dec.{eqb, ltb, eqb→eq}
 use lib.ListN.{length}
 use Rattle.lists.specs.Bytes.{Bytes}
-use Rattle.lists.specs.Tab.{grid}
-use Rattle.lists.proofs.Tab.{length-tab}
+use Rattle.lists.specs.Tab.{tab, grid}
+use Rattle.lists.proofs.Every.{every-at}
 use Rattle.lists.proofs.Bytes.{bytes-none, bytes-take, bytes-drop, bytes-grid}
 use Rattle.choice.specs.declared.inner.Standing.{Standing}
 use Rattle.choice.specs.Choice.{at}
 use Rattle.intra4.specs.Samples.{Side, here, missing, Round}
-use Rattle.intra4.specs.Rules.{samplesOf, mean, vertical, horizontal}
+use Rattle.intra4.specs.Rules.{none, samplesOf, mean, vertical, horizontal}
 use Rattle.intra4.specs.Choice.{costOf}
 use Rattle.intra4.proofs.Bytes.{SideBytes, RoundBytes, vertical-keeps, horizontal-keeps, mean-byte, one-bytes, three-of}
 use Rattle.intra4.proofs.Least.{cost-low}
 use Rattle.intra4.proofs.Masked.{samples-by}
+use Rattle.intra4.proofs.Modes.{each-of}
 use Rattle.sides.specs.Samples.{mask}
 use Rattle.sides.specs.Plane.{plane}
 use Rattle.sides.proofs.Bytes.{plane-keeps, mask-bytes}
-use Rattle.chroma.specs.Rules.{alongOf, orElse, quarterDc, predicted, permitted}
+use Rattle.chroma.specs.Rules.{alongOf, orElse, quarterDc, modes, predicted, permitted}
 use Rattle.chroma.specs.Choice.{chosenForBoth, PicksForBoth}
 use Rattle.chroma.specs.Code.{filled}
 use Rattle.chroma.proofs.Masked.{predicted-is, mode-below-4}
@@ -55,19 +56,24 @@ module _ (r : Round) (b : RoundBytes r) where
 
   mode-bytes : (m : ℕ) → Bytes (samplesOf (predicted r m))
   unfolding predicted
-  mode-bytes zero = bytes-grid 8 _ (λ x y. quarter-byte (x / 4) (y / 4))
-  mode-bytes (suc zero) = one-bytes 8 (r .left) (b .left) horizontal horizontal-keeps
-  mode-bytes (suc (suc zero)) = one-bytes 8 (r .above) (b .above) vertical vertical-keeps
-  mode-bytes (suc (suc (suc zero))) = three-of r b 8 (plane 8) (plane-keeps 8)
-  mode-bytes (suc (suc (suc (suc m)))) = bytes-none
+  mode-bytes m =
+      each-of (λ p. Bytes (samplesOf p)) none bytes-none (modes r) (
+        bytes-grid 8 _ (λ x y. quarter-byte (x / 4) (y / 4)),
+        (
+          one-bytes 8 (r .left) (b .left) horizontal horizontal-keeps,
+          (
+            one-bytes 8 (r .above) (b .above) vertical vertical-keeps,
+            (
+              three-of r b 8 (plane 8) (plane-keeps 8),
+              tt,
+            ),
+          ),
+        ),
+      ) m
 
 length-filled : (above left corner : List ℕ) (f m : ℕ) → m < 4 → length (filled above left corner f m) ≡ 64
-unfolding filled grid
-length-filled above left corner f zero h = length-tab 64 _
-length-filled above left corner f (suc zero) h = length-tab 64 _
-length-filled above left corner f (suc (suc zero)) h = length-tab 64 _
-length-filled above left corner f (suc (suc (suc zero))) h = length-tab 64 _
-length-filled above left corner f (suc (suc (suc (suc m)))) h = absurd (omega arith)
+unfolding filled grid tab
+length-filled above left corner f m h = eqb→eq _ _ (every-at 4 (λ i. eqb (length (filled above left corner f i)) 64) tt m h)
 
 -- ---- the theorems
 
@@ -97,14 +103,3 @@ module _ (f : ℕ) (l l′ cb cr : List ℕ) where
     for-both-permitted =
         let w = for-both-least (mask 8 l f) (mask 8 l′ f) cb cr (r .mode) (r .cost) (sym (p .best)) in
         (w .within, permitted-cost f l l′ cb cr (r .mode) (r .cost) (w .costs))
-
-    pub for-both-bytes : Bytes l → Bytes l′ → Bytes after × Bytes after′
-    for-both-bytes b b′ = (rw (p .cbPrediction) (predicted-bytes l f b (r .mode)), rw (p .crPrediction) (predicted-bytes l′ f b′ (r .mode)))
-
-    pub for-both-long : (length after ≡ 64) × (length after′ ≡ 64)
-    for-both-long =
-        let a = for-both-permitted .1 in
-        (ap length (p .cbPrediction) ∙ predicted-long l f (r .mode) a, ap length (p .crPrediction) ∙ predicted-long l′ f (r .mode) a)
-
-    pub for-both-cost : Bytes l → Bytes l′ → Bytes cb → Bytes cr → r .cost ≤ 32640
-    for-both-cost b b′ o o′ = for-both-low b b′ o o′ (r .mode) (r .cost) (sym (p .best))

@@ -5,18 +5,18 @@
 --     dc-is, horizontal-is, vertical-is, plane-is     the same for what the code has filled, mode by mode
 -- Assumes nothing.
 use mathlib.Core.Path.{_≡_, refl, ap, _∙_}
-use mathlib.Core.Bool.{Bool, true, false, cond, false≢true}
+use mathlib.Core.Bool.{Bool, true, false, cond}
 use mathlib.Core.List.{List, [], _∷_}
 use mathlib.Core.Logic.{_↔_}
 use Prim.Native.Nat.{ℕ, zero, suc, _/_, _<_, _≤_}
 use native.Mathlib.Omega.{arith}
-use lib.Dec.{lit≤}
 use lib.ListN.{length, getD}
 use Rattle.lists.specs.Tab.{grid}
 use Rattle.lists.proofs.Tab.{grid-same}
 use Rattle.intra4.specs.Samples.{bitOf, sideIf, cornerOf, masked}
 use Rattle.intra4.specs.Rules.{samples, none, samplesOf, rowOf, vertical, horizontal}
 use Rattle.intra4.proofs.Masked.{one-is, three-is, none-by, samples-by}
+use Rattle.intra4.proofs.Modes.{mode-below}
 use Rattle.sides.specs.Samples.{aboveOf, leftOf, mask}
 use Rattle.sides.specs.Plane.{plane}
 use Rattle.sides.proofs.Masked.{plane-filled}
@@ -42,11 +42,7 @@ module _ (l : List ℕ) (f m : ℕ) where
 
 pub mode-below-4 : (f m : ℕ) → permitted f m ≡ true → m < 4
 unfolding permitted
-mode-below-4 f zero e = lit≤ tt
-mode-below-4 f (suc zero) e = lit≤ tt
-mode-below-4 f (suc (suc zero)) e = lit≤ tt
-mode-below-4 f (suc (suc (suc zero))) e = lit≤ tt
-mode-below-4 f (suc (suc (suc (suc m)))) e = absurd (false≢true e)
+mode-below-4 f m e = mode-below 4 (permitted f) (λ k. refl) m e
 
 module _ (l : List ℕ) (f m : ℕ) (p : permitted f m ≡ true) {out : List ℕ} where
   is : out ≡ filled (aboveOf 8 l) (leftOf 8 l) (cornerOf l) f m → out ≡ samplesOf (predicted (mask 8 l f) m)

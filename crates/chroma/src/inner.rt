@@ -35,7 +35,7 @@ pub fn fill(neighbours: &[u8], flags: u8, mode: u8, out: &mut [u8])
     let above = &neighbours[1..9];
     let left = &neighbours[9..17];
     match mode {
-        0 => quarters::put_means(
+        0 => quarters::put_quarters(
             quarters::means(above, left, flag(flags, 0), flag(flags, 1)),
             out,
         ),

@@ -5,12 +5,10 @@ use denote.Ref.{now}
 use lib.IntN.{ℤ}
 use Rattle.unique.specs.Unique.{Unique}
 use Rattle.refusal.proofs.Same.{says-same, same-answer}
-use Rattle.dc.proofs.inner.luma_levels.Kinds as luma-levels
-use Rattle.dc.proofs.inner.luma_levels.Reads as luma-levels-reads
+use Rattle.dc.proofs.inner.levels_over.Kinds as levels-over
+use Rattle.dc.proofs.inner.levels_over.Reads as levels-over-reads
 use Rattle.dc.proofs.inner.luma_values.Kinds as luma-values
 use Rattle.dc.proofs.inner.luma_values.Reads as luma-values-reads
-use Rattle.dc.proofs.inner.chroma_levels.Kinds as chroma-levels
-use Rattle.dc.proofs.inner.chroma_levels.Reads as chroma-levels-reads
 use Rattle.dc.proofs.inner.chroma_values.Kinds as chroma-values
 use Rattle.dc.proofs.inner.chroma_values.Reads as chroma-values-reads
 use Rattle.dc.proofs.luma_dc_levels.Kinds as luma-dc-levels
@@ -22,14 +20,11 @@ use Rattle.dc.proofs.chroma_dc_levels.Reads as chroma-dc-levels-reads
 use Rattle.dc.proofs.chroma_dc_values.Kinds as chroma-dc-values
 use Rattle.dc.proofs.chroma_dc_values.Reads as chroma-dc-values-reads
 
-pub luma-levels-unique : Unique 0 luma-levels.ps luma-levels.r luma-levels-reads.Learnt (Unit {0}) (λ κs e. tt)
-luma-levels-unique κs a x y e f p q = (p ∙ sym q, refl)
+pub levels-over-unique : Unique 1 levels-over.ps levels-over.r levels-over-reads.Learnt (List ℤ) (λ κs e. now (e .1 .0))
+levels-over-unique κs a x y e f p q = (refl, p ∙ sym q)
 
 pub luma-values-unique : Unique 0 luma-values.ps luma-values.r luma-values-reads.Learnt (Unit {0}) (λ κs e. tt)
 luma-values-unique κs a x y e f p q = (p ∙ sym q, refl)
-
-pub chroma-levels-unique : Unique 0 chroma-levels.ps chroma-levels.r chroma-levels-reads.Learnt (Unit {0}) (λ κs e. tt)
-chroma-levels-unique κs a x y e f p q = (p ∙ sym q, refl)
 
 pub chroma-values-unique : Unique 0 chroma-values.ps chroma-values.r chroma-values-reads.Learnt (Unit {0}) (λ κs e. tt)
 chroma-values-unique κs a x y e f p q = (p ∙ sym q, refl)

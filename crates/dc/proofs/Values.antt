@@ -3,6 +3,7 @@
 --     luma-back, chroma-back            g of levels of 16 bits
 --     scaled-by                         n numbers rescaled by a rule
 --     chroma-shift, chroma-values-length       chroma's plain shift, and that its values are four
+--     dc-values-length                  as many values as levels, of either path
 -- Assumes nothing.
 use mathlib.Core.Path.{_≡_, sym, ap, _∙_}
 use mathlib.Core.List.{List}
@@ -26,7 +27,8 @@ use Rattle.quantizer.specs.declared.Class.the-variants.{A}
 use Rattle.quantizer.proofs.Tables.{v-small}
 use Rattle.residual.specs.Rescale.{Scalable}
 use Rattle.residual.proofs.Rescale.{scalable}
-use Rattle.dc.specs.Dc.{vA, chromaScaled, chromaValues}
+use Rattle.dc.specs.Dc.{DcCount, vA, lumaScaled, lumaValues, chromaScaled, chromaValues, dcValues}
+use Rattle.dc.proofs.Levels.{by-count}
 
 -- ---- bounds
 
@@ -69,3 +71,7 @@ chroma-shift v p x = ap (λ (z : ℤ). shrZ z 2) (+ℤ-idr (x *ℤ pos (v * 2 ^ 
 pub chroma-values-length : (qp : ℕ) (levels : List ℤ) → length (chromaValues qp levels) ≡ 4
 unfolding chromaValues chromaScaled
 chroma-values-length qp levels = length-tab 4 _
+
+pub dc-values-length : (n : ℕ) → DcCount n → (qp : ℕ) (levels : List ℤ) → length (dcValues n qp levels) ≡ n
+unfolding dcValues lumaValues lumaScaled
+dc-values-length n one qp levels = by-count (λ k. length (dcValues k qp levels) ≡ k) (length-tab 16 _) (chroma-values-length qp levels) n one

@@ -1,6 +1,8 @@
 -- The DC paths (01, "Transform, quantizer, rescaling": "Luma DC", "Chroma DC"; ITU-T H.264, 8.5.10 and 8.5.11). Assumes nothing.
+use mathlib.Core.Bool.{cond, _||_}
 use mathlib.Core.List.{List}
 use Prim.Native.Nat.{ℕ, _^_}
+use lib.Dec.{T, eqb}
 use lib.IntN.{ℤ, pos, _*ℤ_}
 use lib.ListN.{getD}
 use Rattle.lists.specs.Tab.{tab}
@@ -54,3 +56,15 @@ chromaScaled qp g = tab 4 (λ k. (getD g k (pos 0) *ℤ pos (vA qp) *ℤ pos (2 
 
 unfoldable pub chromaValues : ℕ → List ℤ → List ℤ
 chromaValues qp levels = chromaScaled qp (hadamard 2 H2 levels)
+
+-- ---- either: the count of the values tells luma's sixteen from chroma's four
+
+abbrev pub DcCount : ℕ → Type 0
+DcCount n = T (eqb n 16 || eqb n 4)
+
+-- the levels of n DC values by their DC path, and the values of n DC levels
+unfoldable pub dcLevels : (n qp : ℕ) → List ℤ → List ℤ
+dcLevels n qp dc = cond (eqb n 16) (lumaLevels qp dc) (chromaLevels qp dc)
+
+unfoldable pub dcValues : (n qp : ℕ) → List ℤ → List ℤ
+dcValues n qp levels = cond (eqb n 16) (lumaValues qp levels) (chromaValues qp levels)

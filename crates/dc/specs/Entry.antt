@@ -12,12 +12,17 @@ use Rattle.refusal.specs.declared.Refusal.{Refusal}
 use Rattle.refusal.specs.declared.Refusal.the-variants as refusal
 use Rattle.whole.specs.Notation.{minus}
 use Rattle.residual.specs.Entry.{firstWide, lentTests, residualTests, rangeTest}
-use Rattle.dc.specs.Dc.{lumaLevels, lumaValues, chromaLevels, chromaValues}
+use Rattle.dc.specs.Dc.{lumaLevels, lumaValues, chromaLevels, chromaValues, dcLevels}
 
 -- ---- to levels, of n values: LENGTH, QUANTIZER, RESIDUAL, "DC coefficient outside -4080..4080"
 
 abbrev pub dcLevelsTests : ℕ → ℕ → List ℤ → List ℤ → List (Test Refusal)
 dcLevelsTests n qp dc out = residualTests n (minus 4080) (pos 4080) qp dc (length out)
+
+-- what a coder of n DC values makes of them: luma's sixteen or chroma's four
+pub record DcLevels (n qp : ℕ) (dc out : List ℤ) (r : Answer) (after : List ℤ) : Type 0 where
+  pub says : Says (said r) (chain (dcLevelsTests n qp dc out))
+  pub wrote : after ≡ written (chain (dcLevelsTests n qp dc out)) (dcLevels n qp dc) out
 
 -- ---- luma_dc_levels: these of sixteen
 

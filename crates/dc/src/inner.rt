@@ -1,40 +1,62 @@
-// Levels and values of the DC paths over arrays by value, for callers that have tested their numbers.
+// Levels and values of the DC paths, for callers that have tested their numbers.
 ghost use mathlib.Core.Path.{_≡_};
 ghost use Prim.Native.Nat.{_≤_};
 ghost use Rattle.whole.specs.Bounds.{Each};
 ghost use Rattle.quantizer.specs.Range.{highest};
-ghost use Rattle.dc.specs.Dc.{lumaLevels, lumaScaled, lumaValues, chromaLevels, chromaValues};
+ghost use lib.ListN.{length};
+ghost use Rattle.dc.specs.Dc.{DcCount, quantizedDc, lumaLevels, lumaScaled, lumaValues, chromaLevels, chromaValues, dcLevels};
 use quantizer::Class;
 use quantizer::Quantizer;
 
-// The levels of sixteen luma DC values, in zigzag order.
-pub fn luma_levels(quantizer: Quantizer, dc: [i32; 16]) -> [i32; 16]
-    requires { ⌜ (quantizer .qp ≤ highest) × (Each 4080 dc) ⌝ }
-    ensures { λ r. ⌜ r ≡ lumaLevels (quantizer .qp) dc ⌝ }
+// Numbers that came through H made their levels; the divisor is 2^s times a coefficient's, s = 2 for luma and 1 for chroma.
+fn quantized_dc(quantizer: Quantizer, t: &mut [i32], s: u32)
+    requires { ⌜ (quantizer .qp ≤ highest) × (Each 65280 (now t)) × (length (now t) ≤ 16) × (s ≤ 2) ⌝ }
+    ensures { λ _. ⌜ now (t .exit) ≡ quantizedDc (length (now (t .entry))) s (quantizer .qp) (now (t .entry)) ⌝ }
 {
-    let mut t = transform::inner::hadamard4(dc);
     let period = quantizer.period();
     let mf = quantizer.mf(Class::A) as u32;
     let f = residual::inner::third(period);
     let q = 15 + (period as u32);
+    let added = f << s;
     let same = [mf; 16];
-    residual::inner::level_all(&mut t, &same, 4 * f, q + 2);
-    residual::inner::in_zigzag(t)
+    residual::inner::level_all(t, &same, added, q + s);
 }
 
-// The levels of four chroma DC values, in raster order.
-pub fn chroma_levels(quantizer: Quantizer, dc: [i32; 4]) -> [i32; 4]
-    requires { ⌜ (quantizer .qp ≤ highest) × (Each 4080 dc) ⌝ }
-    ensures { λ r. ⌜ r ≡ chromaLevels (quantizer .qp) dc ⌝ }
+// The levels of sixteen luma DC values, in zigzag order, written over them.
+fn luma_levels(quantizer: Quantizer, dc: &mut [i32])
+    requires { ⌜ (quantizer .qp ≤ highest) × (length (now dc) ≡ 16) × (Each 4080 (now dc)) ⌝ }
+    ensures { λ _. ⌜ now (dc .exit) ≡ lumaLevels (quantizer .qp) (now (dc .entry)) ⌝ }
 {
-    let mut t = transform::inner::hadamard2(dc);
-    let period = quantizer.period();
-    let mf = quantizer.mf(Class::A) as u32;
-    let f = residual::inner::third(period);
-    let q = 15 + (period as u32);
-    let same = [mf; 4];
-    residual::inner::level_all(&mut t, &same, 2 * f, q + 1);
-    t
+    let mut w = [0i32; 16];
+    whole::inner::copy(dc, &mut w);
+    let mut t = transform::inner::hadamard4(w);
+    quantized_dc(quantizer, &mut t, 2);
+    let ordered = residual::inner::in_zigzag(t);
+    whole::inner::copy(&ordered, dc);
+}
+
+// The levels of four chroma DC values, in raster order, written over them.
+fn chroma_levels(quantizer: Quantizer, dc: &mut [i32])
+    requires { ⌜ (quantizer .qp ≤ highest) × (length (now dc) ≡ 4) × (Each 4080 (now dc)) ⌝ }
+    ensures { λ _. ⌜ now (dc .exit) ≡ chromaLevels (quantizer .qp) (now (dc .entry)) ⌝ }
+{
+    let mut w = [0i32; 4];
+    whole::inner::copy(dc, &mut w);
+    let mut t = transform::inner::hadamard2(w);
+    quantized_dc(quantizer, &mut t, 1);
+    whole::inner::copy(&t, dc);
+}
+
+// The levels of a macroblock's DC values, sixteen of luma or four of chroma, written over them.
+pub fn levels_over(quantizer: Quantizer, dc: &mut [i32])
+    requires { ⌜ (quantizer .qp ≤ highest) × (DcCount (length (now dc))) × (Each 4080 (now dc)) ⌝ }
+    ensures { λ _. ⌜ now (dc .exit) ≡ dcLevels (length (now (dc .entry))) (quantizer .qp) (now (dc .entry)) ⌝ }
+{
+    if dc.len() == 16 {
+        luma_levels(quantizer, dc);
+    } else {
+        chroma_levels(quantizer, dc);
+    }
 }
 
 // Sixteen numbers that came through H, rescaled: below period 2 the shift is down, and rounds.

@@ -12,9 +12,8 @@ use lib.ListN.{length, take}
 use Rattle.lists.specs.Bytes.{Bytes}
 use Rattle.refusal.specs.declared.Answer.the-variants.{Done}
 use Rattle.refusal.proofs.Same.{says-same}
-use Rattle.picture.specs.Both.{Both}
 use Rattle.picture.specs.Plane.{planeLength}
-use Rattle.macroblock_chroma.proofs.CodedRecord.{BytesBoth}
+use Rattle.macroblock_chroma.specs.Code.{pair}
 use Rattle.plane.specs.Code.{inSlices, CodesPlane}
 use Rattle.plane.specs.Decode.{Decodes}
 use Rattle.plane.specs.declared.CodedPlane.the-variants as coded
@@ -42,7 +41,7 @@ module _ (width height rows qp : ℕ) (cbOffset crOffset : ℤ) (luma cb cr file
         let o = frame-outcome width height rows qp cbOffset crOffset luma cb cr file lumaOut cbOut crOut used file′ lumaOut′ cbOut′ crOut′ c in
         let d : DecodesPicture (take used file′) out outCb outCr Colour lumaOut′ cbOut′ crOut′ =
         rw (o .filed, o .lumas, o .cbs, o .crs)
-        (own-frame-decodes width height rows qp cbOffset crOffset luma (record { cb = cb; cr = cr }) (o .size) (o .sliced) (o .legal) (o .cb-inside) (o .cr-inside) bytes
+        (own-frame-decodes width height rows qp cbOffset crOffset luma (pair cb cr) (o .size) (o .sliced) (o .legal) (o .cb-inside) (o .cr-inside) bytes
         (record { cbs = cbBytes; crs = crBytes }) out outCb outCr room roomCb roomCr) in
         record {
           decodes = d;
@@ -58,7 +57,7 @@ module _ (width height rows qp : ℕ) (cbOffset crOffset : ℤ) (luma cb cr file
     colour-luma-decoded bytes cbBytes crBytes out room =
         let o = frame-outcome width height rows qp cbOffset crOffset luma cb cr file lumaOut cbOut crOut used file′ lumaOut′ cbOut′ crOut′ c in
         rw (o .filed, o .lumas)
-        (own-frame-luma width height rows qp cbOffset crOffset luma (record { cb = cb; cr = cr }) (o .size) (o .sliced) (o .legal) (o .cb-inside) (o .cr-inside) bytes
+        (own-frame-luma width height rows qp cbOffset crOffset luma (pair cb cr) (o .size) (o .sliced) (o .legal) (o .cb-inside) (o .cr-inside) bytes
         (record { cbs = cbBytes; crs = crBytes }) out room)
 
     pub colour-luma-as-plane : (mono rebuilt : List ℕ) (usedMono : ℕ) (mono′ rebuilt′ : List ℕ) → CodesPlane width height rows qp luma mono rebuilt (coded.Bytes usedMono) mono′ rebuilt′

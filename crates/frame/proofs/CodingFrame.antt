@@ -87,15 +87,14 @@ module _ (l : Layout) (qp : ℕ) (cbOffset crOffset : ℤ) (luma : List ℕ) (ch
 
   -- macroblock m has been coded: its records over the front of what was lent, and the planes behind its step
   pub frame-more : {file rebuilt : List ℕ} {both : Both} {place m : ℕ} → 0 < l .width → FrameCoded file rebuilt both place m → m < countOf l
-      → {end used : ℕ} {back after cb cr : List ℕ} → end ≡ length file
+      → {end used : ℕ} {back after : List ℕ} {both′ : Both} → end ≡ length file
       → used ≡ length (recordsFrom l qp cbOffset crOffset luma chroma m rebuilt both)
       → back ≡ over (recordsFrom l qp cbOffset crOffset luma chroma m rebuilt both) (take (end - place) (drop place file))
       → after ≡ codedStep l qp luma m rebuilt
-      → cb ≡ codedStepChroma l qp cbOffset crOffset chroma m both .cb
-      → cr ≡ codedStepChroma l qp cbOffset crOffset chroma m both .cr
-      → FrameCoded (putMid place (end - place) file back) after (record { cb = cb; cr = cr }) (place + used) (m + 1)
+      → both′ ≡ codedStepChroma l qp cbOffset crOffset chroma m both
+      → FrameCoded (putMid place (end - place) file back) after both′ (place + used) (m + 1)
   unfolding planeBefore bothBefore
-  frame-more {file} {rebuilt} {both} {place} {m} some c h {end} {used} {back} {after} {cb} {cr} is-end is-used is-back is-after is-cb is-cr =
+  frame-more {file} {rebuilt} {both} {place} {m} some c h {end} {used} {back} {after} {both′} is-end is-used is-back is-after is-both =
       let e : recordsFrom l qp cbOffset crOffset luma chroma m rebuilt both ≡ records m =
       λ i. recordsFrom l qp cbOffset crOffset luma chroma m (c .stepped .is i) (c .chromas .is i) in
       let r = frame-room c h in
@@ -105,9 +104,9 @@ module _ (l : Layout) (qp : ℕ) (cbOffset crOffset : ℤ) (luma : List ℕ) (ch
       let longer = both-long l some m h qp cbOffset crOffset chroma both (c .long) in
       record {
         kept = ap length is-after ∙ coded-step l some m h qp luma .long rebuilt ∙ c .kept;
-        long = record { cbs = ap length is-cb ∙ longer .cbs; crs = ap length is-cr ∙ longer .crs };
+        long = record { cbs = ap (λ (b : Both). length (b .cb)) is-both ∙ longer .cbs; crs = ap (λ (b : Both). length (b .cr)) is-both ∙ longer .crs };
         stepped = folding-more _ _ _ (c .stepped) h is-after;
-        chromas = folding-more _ _ _ (c .chromas) h (λ i. record { cb = is-cb i; cr = is-cr i });
+        chromas = folding-more _ _ _ (c .chromas) h is-both;
         room = c .room;
         front = rw more
             (filled-more area (c .front) (records m) (omega (arith, r, c .front .next, short)) is-end (is-used ∙ ap length e)

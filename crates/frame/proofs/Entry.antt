@@ -21,7 +21,7 @@ use Rattle.picture.specs.declared.Layout.{Layout}
 use Rattle.picture.specs.Plane.{planeLength}
 use Rattle.plane.specs.Decode.{lumaIn, chromaIn, layoutIn, cleared, decoded, decodedPlane}
 use Rattle.plane.proofs.Entry.{LegalHead}
-use Rattle.frame.specs.Decode.{pictureTests, decodePictureTests, cbFrom, crFrom, cbOf, crOf, saidDecoded, colourValue, colourNumber, LeavesPlanes, DecodesPicture}
+use Rattle.frame.specs.Decode.{pictureTests, decodePictureTests, cbFrom, crFrom, cbOf, crOf, saidDecoded, colourValue, LeavesPlanes, DecodesPicture}
 use Rattle.frame.specs.declared.Decoded.{Decoded}
 use Rattle.frame.specs.declared.Decoded.the-variants.{Mono, Colour, Refused}
 

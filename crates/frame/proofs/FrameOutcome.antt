@@ -24,6 +24,7 @@ use Rattle.head.specs.Entry.{sizeHolds, rowsHold}
 use Rattle.picture.specs.declared.Layout.{Layout}
 use Rattle.picture.specs.Both.{Both}
 use Rattle.picture.specs.Plane.{planeLength}
+use Rattle.macroblock_chroma.specs.Code.{pair}
 use Rattle.plane.specs.Code.{inSlices, planeFrom, codedPlane, saidPlane}
 use Rattle.plane.specs.Decode.{cleared}
 use Rattle.plane.specs.declared.CodedPlane.{CodedPlane}
@@ -45,7 +46,7 @@ module _ (width height rows qp : ℕ) (cbOffset crOffset : ℤ) (luma cb cr file
   l = inSlices width height rows
 
   abbrev chroma : Both
-  chroma = record { cb = cb; cr = cr }
+  chroma = pair cb cr
 
   -- nothing is written
   abbrev Untouched : Refusal → Type 0
@@ -76,22 +77,20 @@ module _ (width height rows qp : ℕ) (cbOffset crOffset : ℤ) (luma cb cr file
         → {used : ℕ} {file′ lumaOut′ cbOut′ crOut′ : List ℕ} → used ≡ length (frameFrom l number for-cb for-cr luma chroma start starts)
         → file′ ≡ over (frameFrom l number for-cb for-cr luma chroma start starts) file
         → lumaOut′ ≡ planeFrom l number luma start
-        → cbOut′ ≡ bothFrom l number for-cb for-cr chroma starts .cb
-        → crOut′ ≡ bothFrom l number for-cb for-cr chroma starts .cr
+        → pair cbOut′ crOut′ ≡ bothFrom l number for-cb for-cr chroma starts
         → CodesPicture width height rows qp cbOffset crOffset luma cb cr file lumaOut cbOut crOut (Bytes used) file′ lumaOut′ cbOut′ crOut′
-    picture-coded passed {number} {for-cb} {for-cr} {start} {starts} is-number is-cb is-cr is-start is-starts is-used is-file is-luma cb-out cr-out =
+    picture-coded passed {number} {for-cb} {for-cr} {start} {starts} is-number is-cb is-cr is-start is-starts is-used is-file is-luma is-both =
         let e = rest ∙ passed in
         let made : frameFrom l number for-cb for-cr luma chroma start starts ≡ codedFrame l qp cbOffset crOffset luma chroma =
         λ i. frameFrom l (is-number i) (is-cb i) (is-cr i) luma chroma (is-start i) (is-starts i) in
-        let both : bothFrom l number for-cb for-cr chroma starts ≡ codedBoth l qp cbOffset crOffset chroma =
-        λ i. bothFrom l (is-number i) (is-cb i) (is-cr i) chroma (is-starts i) in
+        let both = is-both ∙ (λ i. bothFrom l (is-number i) (is-cb i) (is-cr i) chroma (is-starts i)) in
         record {
           says = says (sym e);
           used = simp e (is-used ∙ ap length made);
           filed = simp e (is-file ∙ ap (λ (x : List ℕ). over x file) made);
           lumas = simp e (is-luma ∙ (λ i. planeFrom l (is-number i) luma (is-start i)));
-          cbs = simp e (cb-out ∙ ap (λ (b : Both). b .cb) both);
-          crs = simp e (cr-out ∙ ap (λ (b : Both). b .cr) both);
+          cbs = simp e (ap (λ (b : Both). b .cb) both);
+          crs = simp e (ap (λ (b : Both). b .cr) both);
         }
 
 -- ---- what an answer tells
@@ -105,17 +104,17 @@ pub record FrameOutcome (width height rows qp : ℕ) (cbOffset crOffset : ℤ) (
   pub legal : qp ≤ highest
   pub cb-inside : inside (minus 12) (pos 12) cbOffset ≡ true
   pub cr-inside : inside (minus 12) (pos 12) crOffset ≡ true
-  pub bytes : used ≡ length (codedFrame (inSlices width height rows) qp cbOffset crOffset luma (record { cb = cb; cr = cr }))
+  pub bytes : used ≡ length (codedFrame (inSlices width height rows) qp cbOffset crOffset luma (pair cb cr))
   pub within : used ≤ length file
-  pub filed : take used file′ ≡ codedFrame (inSlices width height rows) qp cbOffset crOffset luma (record { cb = cb; cr = cr })
+  pub filed : take used file′ ≡ codedFrame (inSlices width height rows) qp cbOffset crOffset luma (pair cb cr)
   pub kept : drop used file′ ≡ drop used file
   pub lumas : lumaOut′ ≡ codedPlane (inSlices width height rows) qp luma
-  pub cbs : cbOut′ ≡ codedBoth (inSlices width height rows) qp cbOffset crOffset (record { cb = cb; cr = cr }) .cb
-  pub crs : crOut′ ≡ codedBoth (inSlices width height rows) qp cbOffset crOffset (record { cb = cb; cr = cr }) .cr
+  pub cbs : cbOut′ ≡ codedBoth (inSlices width height rows) qp cbOffset crOffset (pair cb cr) .cb
+  pub crs : crOut′ ≡ codedBoth (inSlices width height rows) qp cbOffset crOffset (pair cb cr) .cr
 
 module _ (width height rows qp : ℕ) (cbOffset crOffset : ℤ) (luma cb cr : List ℕ) where
   abbrev made : List ℕ
-  made = codedFrame (inSlices width height rows) qp cbOffset crOffset luma (record { cb = cb; cr = cr })
+  made = codedFrame (inSlices width height rows) qp cbOffset crOffset luma (pair cb cr)
 
   pub frame-outcome : (file lumaOut cbOut crOut : List ℕ) (used : ℕ) (file′ lumaOut′ cbOut′ crOut′ : List ℕ)
       → CodesPicture width height rows qp cbOffset crOffset luma cb cr file lumaOut cbOut crOut (Bytes used) file′ lumaOut′ cbOut′ crOut′
@@ -127,7 +126,7 @@ module _ (width height rows qp : ℕ) (cbOffset crOffset : ℤ) (luma cb cr : Li
       let all = chain-exactly-if tests .passes .0 v in
       let behind = frameTests l qp cbOffset crOffset (length luma) (length cb) (length cr) (length file) (length lumaOut) (length cbOut) (length crOut) in
       let told = frame-told l qp cbOffset crOffset (length luma) (length cb) (length cr) (length file) (length lumaOut) (length cbOut) (length crOut) (chain-exactly-if behind .passes .1 (all .1 .1)) in
-      let n = length-coded-frame l qp cbOffset crOffset luma (record { cb = cb; cr = cr }) in
+      let n = length-coded-frame l qp cbOffset crOffset luma (pair cb cr) in
       let bytes = holds-new 0 v (c .used) in
       let filed = holds-new file v (c .filed) in
       record {

@@ -19,7 +19,7 @@ use Rattle.picture.specs.Both.{Both}
 use Rattle.picture.specs.Order.{countOf}
 use Rattle.picture.specs.Plane.{planeLength}
 use Rattle.macroblock.specs.Code.{recordFrom}
-use Rattle.macroblock_chroma.specs.Code.{recordFromChroma, codedStepChroma}
+use Rattle.macroblock_chroma.specs.Code.{pair, recordFromChroma, codedStepChroma}
 use Rattle.macroblock_chroma.specs.Content.{offsetTest}
 use Rattle.plane.specs.Code.{inSlices, headFor, behindHead, planeBefore, codedPlane, saidPlane, bytesUsed}
 use Rattle.plane.specs.Decode.{cleared}
@@ -50,7 +50,7 @@ frameFrom l qp cbOffset crOffset luma chroma start starts = headFor l ++ parts (
 
 -- from planes that are cleared, of which nothing is ever seen (theorem `code-picture-start-has-no-value`)
 abbrev pub bothCleared : Layout → Both
-bothCleared l = record { cb = cleared (planeLength 8 l); cr = cleared (planeLength 8 l) }
+bothCleared l = pair (cleared (planeLength 8 l)) (cleared (planeLength 8 l))
 
 abbrev pub codedFrame : Layout → (qp : ℕ) → (cbOffset crOffset : ℤ) → (luma : List ℕ) → (chroma : Both) → List ℕ
 codedFrame l qp cbOffset crOffset luma chroma = frameFrom l qp cbOffset crOffset luma chroma (cleared (planeLength 16 l)) (bothCleared l)
@@ -98,4 +98,4 @@ abbrev pub CodesPicture : (width height rows qp : ℕ) (cbOffset crOffset : ℤ)
     (r : CodedPlane) (file′ lumaOut′ cbOut′ crOut′ : List ℕ) → Type 0
 CodesPicture width height rows qp cbOffset crOffset luma cb cr file lumaOut cbOut crOut r file′ lumaOut′ cbOut′ crOut′ =
     LeavesFrame (chain (codePictureTests width height rows qp cbOffset crOffset luma cb cr file lumaOut cbOut crOut)) (inSlices width height rows)
-    qp cbOffset crOffset luma (record { cb = cb; cr = cr }) file lumaOut cbOut crOut r file′ lumaOut′ cbOut′ crOut′
+    qp cbOffset crOffset luma (pair cb cr) file lumaOut cbOut crOut r file′ lumaOut′ cbOut′ crOut′

@@ -12,7 +12,7 @@ ghost use Rattle.record.specs.Kinds.{inFours, inChroma, lengthOf};
 ghost use Rattle.picture.specs.Order.{Among, Sound};
 ghost use Rattle.picture.specs.Plane.{planeLength};
 ghost use Rattle.macroblock.specs.Code.{codedStep};
-ghost use Rattle.macroblock_chroma.specs.Code.{codedStepChroma};
+ghost use Rattle.macroblock_chroma.specs.Code.{pair, codedStepChroma};
 ghost use Rattle.plane.specs.Code.{planeFrom};
 ghost use Rattle.frame.specs.Code.{frameArea, recordsFrom, frameFrom, bothFrom};
 use picture::Layout;
@@ -36,11 +36,10 @@ fn code_records(
     requires { ⌜ (Among layout m 0) × (quantizer .qp ≤ highest) × (inside (minus 12) (pos 12) «cb_offset» ≡ true) × (inside (minus 12) (pos 12) «cr_offset» ≡ true) ⌝ }
     requires { ⌜ (length (now luma) ≡ planeLength 16 layout) × (length (now cb) ≡ planeLength 8 layout) × (length (now cr) ≡ planeLength 8 layout) ⌝ }
     requires { ⌜ (lengthOf inFours + lengthOf inChroma ≤ length (now file)) × (length (now «luma_out») ≡ planeLength 16 layout) × (length (now «cb_out») ≡ planeLength 8 layout) × (length (now «cr_out») ≡ planeLength 8 layout) ⌝ }
-    ensures { λ r. ⌜ r ≡ length (recordsFrom layout (quantizer .qp) «cb_offset» «cr_offset» (now (luma .entry)) (record { cb = now (cb .entry); cr = now (cr .entry) }) m (now («luma_out» .entry)) (record { cb = now («cb_out» .entry); cr = now («cr_out» .entry) })) ⌝ }
-    ensures { λ r. ⌜ now (file .exit) ≡ over (recordsFrom layout (quantizer .qp) «cb_offset» «cr_offset» (now (luma .entry)) (record { cb = now (cb .entry); cr = now (cr .entry) }) m (now («luma_out» .entry)) (record { cb = now («cb_out» .entry); cr = now («cr_out» .entry) })) (now (file .entry)) ⌝ }
+    ensures { λ r. ⌜ r ≡ length (recordsFrom layout (quantizer .qp) «cb_offset» «cr_offset» (now (luma .entry)) (pair (now (cb .entry)) (now (cr .entry))) m (now («luma_out» .entry)) (pair (now («cb_out» .entry)) (now («cr_out» .entry)))) ⌝ }
+    ensures { λ r. ⌜ now (file .exit) ≡ over (recordsFrom layout (quantizer .qp) «cb_offset» «cr_offset» (now (luma .entry)) (pair (now (cb .entry)) (now (cr .entry))) m (now («luma_out» .entry)) (pair (now («cb_out» .entry)) (now («cr_out» .entry)))) (now (file .entry)) ⌝ }
     ensures { λ r. ⌜ now («luma_out» .exit) ≡ codedStep layout (quantizer .qp) (now (luma .entry)) m (now («luma_out» .entry)) ⌝ }
-    ensures { λ r. ⌜ now («cb_out» .exit) ≡ codedStepChroma layout (quantizer .qp) «cb_offset» «cr_offset» (record { cb = now (cb .entry); cr = now (cr .entry) }) m (record { cb = now («cb_out» .entry); cr = now («cr_out» .entry) }) .cb ⌝ }
-    ensures { λ r. ⌜ now («cr_out» .exit) ≡ codedStepChroma layout (quantizer .qp) «cb_offset» «cr_offset» (record { cb = now (cb .entry); cr = now (cr .entry) }) m (record { cb = now («cb_out» .entry); cr = now («cr_out» .entry) }) .cr ⌝ }
+    ensures { λ r. ⌜ pair (now («cb_out» .exit)) (now («cr_out» .exit)) ≡ codedStepChroma layout (quantizer .qp) «cb_offset» «cr_offset» (pair (now (cb .entry)) (now (cr .entry))) m (pair (now («cb_out» .entry)) (now («cr_out» .entry))) ⌝ }
 {
     let end = file.len();
     let used = macroblock::inner::code_macroblock(layout, m, quantizer, luma, file, luma_out);
@@ -76,11 +75,10 @@ pub(crate) fn code_frame(
     requires { ⌜ (Sound layout) × (layout .rows ≤ layout .height) × (quantizer .qp ≤ highest) × (inside (minus 12) (pos 12) «cb_offset» ≡ true) × (inside (minus 12) (pos 12) «cr_offset» ≡ true) ⌝ }
     requires { ⌜ (length (now luma) ≡ planeLength 16 layout) × (length (now cb) ≡ planeLength 8 layout) × (length (now cr) ≡ planeLength 8 layout) ⌝ }
     requires { ⌜ (frameArea layout ≤ length (now file)) × (length (now «luma_out») ≡ planeLength 16 layout) × (length (now «cb_out») ≡ planeLength 8 layout) × (length (now «cr_out») ≡ planeLength 8 layout) ⌝ }
-    ensures { λ r. ⌜ r ≡ length (frameFrom layout (quantizer .qp) «cb_offset» «cr_offset» (now (luma .entry)) (record { cb = now (cb .entry); cr = now (cr .entry) }) (now («luma_out» .entry)) (record { cb = now («cb_out» .entry); cr = now («cr_out» .entry) })) ⌝ }
-    ensures { λ r. ⌜ now (file .exit) ≡ over (frameFrom layout (quantizer .qp) «cb_offset» «cr_offset» (now (luma .entry)) (record { cb = now (cb .entry); cr = now (cr .entry) }) (now («luma_out» .entry)) (record { cb = now («cb_out» .entry); cr = now («cr_out» .entry) })) (now (file .entry)) ⌝ }
+    ensures { λ r. ⌜ r ≡ length (frameFrom layout (quantizer .qp) «cb_offset» «cr_offset» (now (luma .entry)) (pair (now (cb .entry)) (now (cr .entry))) (now («luma_out» .entry)) (pair (now («cb_out» .entry)) (now («cr_out» .entry)))) ⌝ }
+    ensures { λ r. ⌜ now (file .exit) ≡ over (frameFrom layout (quantizer .qp) «cb_offset» «cr_offset» (now (luma .entry)) (pair (now (cb .entry)) (now (cr .entry))) (now («luma_out» .entry)) (pair (now («cb_out» .entry)) (now («cr_out» .entry)))) (now (file .entry)) ⌝ }
     ensures { λ r. ⌜ now («luma_out» .exit) ≡ planeFrom layout (quantizer .qp) (now (luma .entry)) (now («luma_out» .entry)) ⌝ }
-    ensures { λ r. ⌜ now («cb_out» .exit) ≡ bothFrom layout (quantizer .qp) «cb_offset» «cr_offset» (record { cb = now (cb .entry); cr = now (cr .entry) }) (record { cb = now («cb_out» .entry); cr = now («cr_out» .entry) }) .cb ⌝ }
-    ensures { λ r. ⌜ now («cr_out» .exit) ≡ bothFrom layout (quantizer .qp) «cb_offset» «cr_offset» (record { cb = now (cb .entry); cr = now (cr .entry) }) (record { cb = now («cb_out» .entry); cr = now («cr_out» .entry) }) .cr ⌝ }
+    ensures { λ r. ⌜ pair (now («cb_out» .exit)) (now («cr_out» .exit)) ≡ bothFrom layout (quantizer .qp) «cb_offset» «cr_offset» (pair (now (cb .entry)) (now (cr .entry))) (pair (now («cb_out» .entry)) (now («cr_out» .entry))) ⌝ }
 {
     let mut place = head::inner::write_head(
         layout.width as u16,

@@ -34,7 +34,7 @@ fn rebuild_at(
 }
 
 // All macroblocks of both planes.
-fn rebuild_both(layout: Layout, start: usize, file: &[u8], cb: &mut [u8], cr: &mut [u8])
+fn rebuild_all(layout: Layout, start: usize, file: &[u8], cb: &mut [u8], cr: &mut [u8])
     requires { ⌜ (Sound layout) × (chain (recordsTests layout start (now file)) ≡ pass) × (colourAt start (now file) ≡ true) ⌝ }
     requires { ⌜ (length (now cb) ≡ planeLength 8 layout) × (length (now cr) ≡ planeLength 8 layout) ⌝ }
     ensures { λ _. ⌜ now (cb .exit) ≡ cbFrom layout (lumaIn (now (file .entry)) start) (chromaIn (now (file .entry)) start) (now (cb .entry)) ⌝ }
@@ -57,7 +57,7 @@ pub(crate) fn both_planes(layout: Layout, start: usize, file: &[u8], cb: &mut [u
 {
     plane::inner::clear(cb);
     plane::inner::clear(cr);
-    rebuild_both(layout, start, file, cb, cr);
+    rebuild_all(layout, start, file, cb, cr);
 }
 
 // The luma plane of a file, whatever stood there.

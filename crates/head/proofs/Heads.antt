@@ -2,7 +2,7 @@
 --     length-unknown, length-some                                  a mark is a head's exactly if a head with it has a length
 --     tests-cut, tests-mark, tests-short, tests-sum, tests-size, tests-rows, tests-legal     the seven verdicts
 --     same-head                                                    an answer is known by what it says and what comes back with it
---     Sized, sized-of                                              what a size that holds tells
+--     Sized, size-tells                                            what a size that holds tells
 --     Told, head-told                                              what a head that is legal tells
 --     read-head-refuses-exactly-if
 -- Assumes nothing.
@@ -91,9 +91,9 @@ pub record Sized (width height : ℕ) : Type 0 where
   pub tall : 0 < height
   pub high : height ≤ 128
 
-pub sized-of : (width height : ℕ) → sizeHolds width height ≡ true → Sized width height
+pub size-tells : (width height : ℕ) → sizeHolds width height ≡ true → Sized width height
 unfolding sizeHolds
-sized-of width height e =
+size-tells width height e =
     let d = both-true (dimension width) (dimension height) e in
     let w = both-true (leb 1 width) (leb width 128) (d .0) in
     let h = both-true (leb 1 height) (leb height 128) (d .1) in
@@ -129,7 +129,7 @@ head-told file {h} {width} {height} {rows} {long} p e =
       high = k;
       sliced = s;
       behind = sym (ap longOf e) ∙ holds-new 0 v (p .long);
-      sized = rw (w, k) (sized-of (widthAt file) (heightAt file) (a .1 .1 .1 .1 .0));
+      sized = rw (w, k) (size-tells (widthAt file) (heightAt file) (a .1 .1 .1 .1 .0));
       some-rows = rw s (n .0);
       most-rows = rw (s, k) (n .1);
     }

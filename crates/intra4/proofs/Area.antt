@@ -6,10 +6,12 @@
 use mathlib.Core.Path.{_≡_, refl, sym, ap, ap₂, subst, _∙_}
 use mathlib.Core.Bool.{Bool, true, false, cond}
 use mathlib.Core.List.{List}
-use Prim.Native.Nat.{ℕ, zero, suc, _*_, _<_, _≤_}
+use Prim.Native.Nat.{ℕ, _*_, _<_, _≤_}
 use native.Mathlib.Omega.{arith}
+use lib.Dec.{eqb, eqb→eq}
 use lib.ListN.{length, take, drop}
 use Rattle.lists.specs.Tab.{grid, tab}
+use Rattle.lists.proofs.Every.{every-at}
 use Rattle.lists.proofs.Parts.{parts-at}
 use Rattle.choice.specs.declared.inner.Standing.{Standing}
 use Rattle.choice.specs.Choice.{is, no, at, bestOf, sad}
@@ -43,16 +45,7 @@ module _ (area : List ℕ) (f m : ℕ) (block : List ℕ) (b : Standing) where
 
 pub length-filled : (t s : List ℕ) (f k : ℕ) → k < 9 → length (filled t s f k) ≡ 16
 unfolding filled grid tab
-length-filled t s f zero h = refl
-length-filled t s f (suc zero) h = refl
-length-filled t s f (suc (suc zero)) h = refl
-length-filled t s f (suc (suc (suc zero))) h = refl
-length-filled t s f (suc (suc (suc (suc zero)))) h = refl
-length-filled t s f (suc (suc (suc (suc (suc zero))))) h = refl
-length-filled t s f (suc (suc (suc (suc (suc (suc zero)))))) h = refl
-length-filled t s f (suc (suc (suc (suc (suc (suc (suc zero))))))) h = refl
-length-filled t s f (suc (suc (suc (suc (suc (suc (suc (suc zero)))))))) h = refl
-length-filled t s f (suc (suc (suc (suc (suc (suc (suc (suc (suc k))))))))) h = absurd (omega arith)
+length-filled t s f k h = eqb→eq _ _ (every-at 9 (λ i. eqb (length (filled t s f i)) 16) tt k h)
 
 area-at : (t s : List ℕ) (f m : ℕ) → m < 9 → take 16 (drop (16 * m) (areaFilled t s f)) ≡ filled t s f m
 area-at t s f m h = parts-at 16 (filled t s f) 9 m (length-filled t s f) h

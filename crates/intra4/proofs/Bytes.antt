@@ -18,13 +18,14 @@ use Rattle.lists.specs.Bytes.{Bytes}
 use Rattle.lists.proofs.Total.{total-low}
 use Rattle.lists.proofs.Bytes.{bytes-none, bytes-append, bytes-take, bytes-drop, bytes-replicate, byte-cond, bytes-cond, bytes-grid}
 use Rattle.intra4.specs.Samples.{Side, here, missing, Round, bitOf, sideIf, aboveOf, masked, mask}
-use Rattle.intra4.specs.Rules.{avg2, avg3, rowOf, byZ, mean, one, three, samplesOf, predicted, permitted}
+use Rattle.intra4.specs.Rules.{avg2, avg3, rowOf, byZ, mean, one, three, none, samplesOf, modes, predicted, permitted}
 use Rattle.intra4.specs.Rules.{vertical, horizontal, downLeft, downRight, verticalRight, horizontalDown, verticalLeft, horizontalUp}
 use Rattle.intra4.specs.Choice.{Best, nothing, at, chosen, ChosenMode}
 use Rattle.intra4.specs.Entry.{bestSamples}
 use Rattle.intra4.proofs.Area.{length-filled, permitted-cost}
 use Rattle.intra4.proofs.Least.{some-mode}
 use Rattle.intra4.proofs.Masked.{filled-is, mode-below-9}
+use Rattle.intra4.proofs.Modes.{each-of}
 
 -- ---- the rules: of bytes each makes a byte
 
@@ -152,16 +153,35 @@ module _ (r : Round) (b : RoundBytes r) where
 
   mode-bytes : (m : ℕ) → Bytes (samplesOf (predicted r m))
   unfolding predicted
-  mode-bytes zero = one-bytes 4 (r .above) (b .above) vertical vertical-keeps
-  mode-bytes (suc zero) = one-bytes 4 (r .left) (b .left) horizontal horizontal-keeps
-  mode-bytes (suc (suc zero)) = bytes-grid 4 _ (λ x y. mean-byte 4 (omega arith) (r .above) (r .left) (b .above) (b .left))
-  mode-bytes (suc (suc (suc zero))) = one-bytes 4 (r .above) (b .above) downLeft down-left-keeps
-  mode-bytes (suc (suc (suc (suc zero)))) = three-of 4 downRight down-right-keeps
-  mode-bytes (suc (suc (suc (suc (suc zero))))) = three-of 4 verticalRight vertical-right-keeps
-  mode-bytes (suc (suc (suc (suc (suc (suc zero)))))) = three-of 4 horizontalDown horizontal-down-keeps
-  mode-bytes (suc (suc (suc (suc (suc (suc (suc zero))))))) = one-bytes 4 (r .above) (b .above) verticalLeft vertical-left-keeps
-  mode-bytes (suc (suc (suc (suc (suc (suc (suc (suc zero)))))))) = one-bytes 4 (r .left) (b .left) horizontalUp horizontal-up-keeps
-  mode-bytes (suc (suc (suc (suc (suc (suc (suc (suc (suc m))))))))) = bytes-none
+  mode-bytes m =
+      each-of (λ p. Bytes (samplesOf p)) none bytes-none (modes r) (
+        one-bytes 4 (r .above) (b .above) vertical vertical-keeps,
+        (
+          one-bytes 4 (r .left) (b .left) horizontal horizontal-keeps,
+          (
+            bytes-grid 4 _ (λ x y. mean-byte 4 (omega arith) (r .above) (r .left) (b .above) (b .left)),
+            (
+              one-bytes 4 (r .above) (b .above) downLeft down-left-keeps,
+              (
+                three-of 4 downRight down-right-keeps,
+                (
+                  three-of 4 verticalRight vertical-right-keeps,
+                  (
+                    three-of 4 horizontalDown horizontal-down-keeps,
+                    (
+                      one-bytes 4 (r .above) (b .above) verticalLeft vertical-left-keeps,
+                      (
+                        one-bytes 4 (r .left) (b .left) horizontalUp horizontal-up-keeps,
+                        tt,
+                      ),
+                    ),
+                  ),
+                ),
+              ),
+            ),
+          ),
+        ),
+      ) m
 
 -- ---- the theorems
 

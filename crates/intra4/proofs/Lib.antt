@@ -3,6 +3,7 @@ pub mod Bytes
 pub mod Least
 pub mod Masked
 pub mod Missing
+pub mod Modes
 pub mod Outcome
 pub mod Places
 pub mod Unique

@@ -8,11 +8,10 @@
 --     filled-is        the same for what the code has filled
 -- Assumes nothing.
 use mathlib.Core.Path.{_≡_, refl, sym, ap, ap₂, subst, _∙_}
-use mathlib.Core.Bool.{Bool, true, false, cond, _&&_, false≢true}
+use mathlib.Core.Bool.{Bool, true, false, cond, _&&_}
 use mathlib.Core.List.{List, [], _∷_}
 use mathlib.Core.Logic.{_↔_}
 use Prim.Native.Nat.{ℕ, zero, suc, _<_}
-use lib.Dec.{lit≤}
 use lib.IntN.{ℤ}
 use lib.ListN.{length, getD}
 use Rattle.lists.specs.Tab.{grid, tab}
@@ -21,6 +20,7 @@ use Rattle.intra4.specs.Samples.{sideIf, bitOf, masked, mask, allPresent
 use Rattle.intra4.specs.Rules.{Predicted, samples, none, samplesOf, rowOf, one, three, predicted, permitted}
 use Rattle.intra4.specs.Rules.{vertical, horizontal, downLeft, downRight, verticalRight, horizontalDown, verticalLeft, horizontalUp}
 use Rattle.intra4.specs.Code.{topRow, leftRow, filled}
+use Rattle.intra4.proofs.Modes.{mode-below}
 
 pub one-is : (n : ℕ) (b : Bool) (l : List ℕ) (rule : (ℤ → ℕ) → ℕ → ℕ → ℕ) → one n (sideIf b l) rule ≡ cond b (samples (grid n (rule (rowOf [] l)))) none
 one-is n true l rule = refl
@@ -94,13 +94,4 @@ module _ (n : List ℕ) (f m : ℕ) (e : length n ≡ 13) where
 
 pub mode-below-9 : (f m : ℕ) → permitted f m ≡ true → m < 9
 unfolding permitted
-mode-below-9 f zero e = lit≤ tt
-mode-below-9 f (suc zero) e = lit≤ tt
-mode-below-9 f (suc (suc zero)) e = lit≤ tt
-mode-below-9 f (suc (suc (suc zero))) e = lit≤ tt
-mode-below-9 f (suc (suc (suc (suc zero)))) e = lit≤ tt
-mode-below-9 f (suc (suc (suc (suc (suc zero))))) e = lit≤ tt
-mode-below-9 f (suc (suc (suc (suc (suc (suc zero)))))) e = lit≤ tt
-mode-below-9 f (suc (suc (suc (suc (suc (suc (suc zero))))))) e = lit≤ tt
-mode-below-9 f (suc (suc (suc (suc (suc (suc (suc (suc zero)))))))) e = lit≤ tt
-mode-below-9 f (suc (suc (suc (suc (suc (suc (suc (suc (suc m))))))))) e = absurd (false≢true e)
+mode-below-9 f m e = mode-below 9 (permitted f) (λ k. refl) m e

@@ -1,10 +1,10 @@
 -- The two candidates of a macroblock, and what is written of the one that is taken.
 --     wins-whole, wins-fours                              an area of 256 levels is handed back whole
 --     record-whole, step-whole, record-fours, step-fours  the record and the step, by the comparison that the code makes
---     whole-written, fours-written                        the record that is written is the macroblock's
+--     whole-done, fours-done                              with the record written and the samples stored, all that the call has to leave
 --     sixteen-over                                        the samples of 16x16 stored over those of 4x4: storing forgets what stood there
 -- Assumes nothing.
-use mathlib.Core.Path.{_≡_, sym, _∙_}
+use mathlib.Core.Path.{_≡_, sym, ap, _∙_}
 use mathlib.Core.List.{List}
 use Prim.Native.Nat.{ℕ, _<_, _≤_}
 use native.Mathlib.Omega.{arith}
@@ -12,6 +12,8 @@ use borrow.Author.Tests.{lt-ltb, le-ltb}
 use lib.IntN.{ℤ}
 use lib.ListN.{length}
 use lib.Seq.{take-all}
+use Rattle.lists.specs.Parts.{over}
+use Rattle.record.specs.Kinds.{inFours, inWhole, lengthOf}
 use Rattle.record.specs.Records.{recordOf, recordWhole}
 use Rattle.picture.specs.declared.Layout.{Layout}
 use Rattle.picture.specs.Order.{countOf}
@@ -20,7 +22,9 @@ use Rattle.picture.specs.Whole.{withWhole, gatheredRound}
 use Rattle.picture.proofs.Whole.{whole-forgets}
 use Rattle.macroblock4.specs.Code.{modesFrom, sadsFrom, blocksFrom, recordFrom4, codedStep4}
 use Rattle.macroblock4.proofs.Looks.{coded-step4}
+use Rattle.macroblock4.proofs.RecordFrom.{length-record-from4}
 use Rattle.macroblock16.specs.Code.{modeFrom16, sadFrom16, levelsFrom16, recordFrom16, codedStep16}
+use Rattle.macroblock16.proofs.CodedRecord.{length-record-from16}
 use Rattle.macroblock.specs.Code.{recordFrom, codedStep}
 use Rattle.macroblock.specs.Winner.{winning}
 
@@ -34,6 +38,11 @@ pub wins-fours : (four sixteen : List ℤ) {apart together : ℕ} → length fou
 unfolding winning
 wins-fours four sixteen {apart} {together} long h = rw (le-ltb together apart h) (take-all 256 four (omega arith))
 
+-- what the call leaves: how many bytes it used, the file area and the plane
+abbrev MacroblockCoded : (l : Layout) (qp : ℕ) (original : List ℕ) (m : ℕ) (before : List ℕ) (used : ℕ) (file file′ after : List ℕ) → Type 0
+MacroblockCoded l qp original m before used file file′ after =
+    (used ≡ length (recordFrom l qp original m before)) × ((file′ ≡ over (recordFrom l qp original m before) file) × (after ≡ codedStep l qp original m before))
+
 -- ---- by the comparison that the code makes, of the two SADs that it has
 
 module _ (l : Layout) (qp : ℕ) (original : List ℕ) (m : ℕ) (before : List ℕ) {apart together : ℕ}
@@ -42,7 +51,7 @@ module _ (l : Layout) (qp : ℕ) (original : List ℕ) (m : ℕ) (before : List 
   unfolding recordFrom
   record-whole h = rw (sym is-apart, sym is-together, lt-ltb together apart h)
 
-  pub step-whole : together < apart → codedStep l qp original m before ≡ codedStep16 l qp original m before
+  step-whole : together < apart → codedStep l qp original m before ≡ codedStep16 l qp original m before
   unfolding codedStep
   step-whole h = rw (sym is-apart, sym is-together, lt-ltb together apart h)
 
@@ -50,21 +59,25 @@ module _ (l : Layout) (qp : ℕ) (original : List ℕ) (m : ℕ) (before : List 
   unfolding recordFrom
   record-fours h = rw (sym is-apart, sym is-together, le-ltb together apart h)
 
-  pub step-fours : apart ≤ together → codedStep l qp original m before ≡ codedStep4 l qp original m before
+  step-fours : apart ≤ together → codedStep l qp original m before ≡ codedStep4 l qp original m before
   unfolding codedStep
   step-fours h = rw (sym is-apart, sym is-together, le-ltb together apart h)
 
-  -- the record that is written is the macroblock's
-  pub whole-written : {mode : ℕ} {levels : List ℤ} → mode ≡ modeFrom16 l original m (gatheredRound 16 l m before)
-      → levels ≡ levelsFrom16 l qp original m (gatheredRound 16 l m before) → together < apart
-      → recordWhole m qp mode levels ≡ recordFrom l qp original m before
+  pub whole-done : {number mode used : ℕ} {levels : List ℤ} (file : List ℕ) {file′ after : List ℕ} → together < apart → number ≡ qp
+      → mode ≡ modeFrom16 l original m (gatheredRound 16 l m before) → levels ≡ levelsFrom16 l qp original m (gatheredRound 16 l m before)
+      → (used ≡ lengthOf inWhole) × (file′ ≡ over (recordWhole m number mode levels) file) → after ≡ codedStep16 l qp original m before → MacroblockCoded l qp original m before used file file′ after
   unfolding recordFrom16
-  whole-written is-mode is-levels h = (λ i. recordWhole m qp (is-mode i) (is-levels i)) ∙ sym (record-whole h)
+  whole-done file h is-number is-mode is-levels wrote step =
+      let is = (λ i. recordWhole m (is-number i) (is-mode i) (is-levels i)) ∙ sym (record-whole h) in
+      (wrote .0 ∙ sym (ap length (record-whole h) ∙ length-record-from16 l qp original m before), (wrote .1 ∙ ap (λ (r : List ℕ). over r file) is, step ∙ sym (step-whole h)))
 
-  pub fours-written : {modes : List ℕ} {levels : List ℤ} → modes ≡ modesFrom l qp original m before → levels ≡ blocksFrom l qp original m before → apart ≤ together
-      → recordOf m qp modes levels ≡ recordFrom l qp original m before
+  pub fours-done : {number used : ℕ} {modes : List ℕ} {levels : List ℤ} (file : List ℕ) {file′ after : List ℕ} → apart ≤ together → number ≡ qp
+      → modes ≡ modesFrom l qp original m before → levels ≡ blocksFrom l qp original m before
+      → (used ≡ lengthOf inFours) × (file′ ≡ over (recordOf m number modes levels) file) → after ≡ codedStep4 l qp original m before → MacroblockCoded l qp original m before used file file′ after
   unfolding recordFrom4
-  fours-written is-modes is-levels h = (λ i. recordOf m qp (is-modes i) (is-levels i)) ∙ sym (record-fours h)
+  fours-done file h is-number is-modes is-levels wrote step =
+      let is = (λ i. recordOf m (is-number i) (is-modes i) (is-levels i)) ∙ sym (record-fours h) in
+      (wrote .0 ∙ sym (ap length (record-fours h) ∙ length-record-from4 l qp original m before), (wrote .1 ∙ ap (λ (r : List ℕ). over r file) is, step ∙ sym (step-fours h)))
 
 -- ---- 16x16 over 4x4
 

@@ -9,15 +9,12 @@
 use mathlib.Core.Path.{_≡_, refl, sym, ap, _∙_}
 use mathlib.Core.Bool.{Bool, true, false, cond}
 use mathlib.Core.List.{List}
-use mathlib.Core.Logic.{inl, inr}
 use Prim.Native.Nat.{ℕ, _*_, _<_, _≤_}
 use native.Mathlib.Omega.{arith}
 use Rattle.lists.specs.Bytes.{Bytes}
-use Rattle.lists.specs.Chain.{pass, stop, chain, RefusedWith}
+use Rattle.lists.specs.Chain.{pass, chain}
 use Rattle.lists.proofs.Chain.{chain-exactly-if}
-use Rattle.refusal.specs.Faults.{isBroken}
-use Rattle.refusal.specs.declared.Refusal.{Refusal}
-use Rattle.refusal.proofs.Faults.{false-not-true}
+use Rattle.refusal.proofs.Faults.{noneBroken}
 use Rattle.quantizer.specs.Range.{highest}
 use Rattle.quantizer.proofs.Range.{number-legal}
 use Rattle.record.specs.Kinds.{inFours, inWhole, lengthOf}
@@ -35,7 +32,7 @@ use Rattle.macroblock16.proofs.CodedRecord.{qp-said16, is-whole-from16, content
 use Rattle.macroblock.specs.Code.{recordFrom, codedStep}
 use Rattle.macroblock.specs.Content.{kindBy, contentTests}
 use Rattle.macroblock.specs.Rebuild.{rebuiltStep}
-use Rattle.macroblock.proofs.RecordFrom.{either, together}
+use Rattle.macroblock.proofs.RecordFrom.{whichever, together}
 
 -- either kind has a mark
 pub kind-long : (part : List ℕ) → 1 < lengthOf (kindBy part)
@@ -69,34 +66,14 @@ module _ (l : Layout) (m : ℕ) (part : List ℕ) where
       by true q = number-legal (16 * m) (qpIn part) (chain-exactly-if (contentTests16 l m part) .passes .0 (sym (ap chain (tests-whole q)) ∙ e) .0)
       by false q = number-legal (16 * m) (qpIn part) (chain-exactly-if (contentTests4 l m part) .passes .0 (sym (ap chain (tests-fours q)) ∙ e) .0)
 
--- ---- none of its refusals says that the file is broken
-
-module _ (l : Layout) (m : ℕ) (part : List ℕ) (r : Refusal) (broken : isBroken r ≡ true) where
-  content16-not-broken : chain (contentTests16 l m part) ≡ stop r → ⊥
-  content16-not-broken e = by (chain-exactly-if (contentTests16 l m part) .refuses r .0 e)
+  -- none of its refusals says that the file is broken
+  pub content-not-broken : noneBroken (contentTests l m part) ≡ true
+  unfolding contentTests
+  content-not-broken = by (isWhole part)
     where
-      by : RefusedWith (contentTests16 l m part) r → ⊥
-      by (inl (a, q)) = false-not-true (sym (ap isBroken q) ∙ broken)
-      by (inr (a, inl (b, q))) = false-not-true (sym (ap isBroken q) ∙ broken)
-      by (inr (a, inr (b, inl (c, q)))) = false-not-true (sym (ap isBroken q) ∙ broken)
-      by (inr (a, inr (b, inr (c, inl (d, q))))) = false-not-true (sym (ap isBroken q) ∙ broken)
-      by (inr (a, inr (b, inr (c, inr (d, q))))) = q
-
-  content4-not-broken : chain (contentTests4 l m part) ≡ stop r → ⊥
-  content4-not-broken e = by (chain-exactly-if (contentTests4 l m part) .refuses r .0 e)
-    where
-      by : RefusedWith (contentTests4 l m part) r → ⊥
-      by (inl (a, q)) = false-not-true (sym (ap isBroken q) ∙ broken)
-      by (inr (a, inl (b, q))) = false-not-true (sym (ap isBroken q) ∙ broken)
-      by (inr (a, inr (b, inl (c, q)))) = false-not-true (sym (ap isBroken q) ∙ broken)
-      by (inr (a, inr (b, inr (c, q)))) = q
-
-  pub content-not-broken : chain (contentTests l m part) ≡ stop r → ⊥
-  content-not-broken e = by (isWhole part) refl
-    where
-      by : (b : Bool) → isWhole part ≡ b → ⊥
-      by true q = content16-not-broken (sym (ap chain (tests-whole l m part q)) ∙ e)
-      by false q = content4-not-broken (sym (ap chain (tests-fours l m part q)) ∙ e)
+      by : (b : Bool) → noneBroken (cond b (contentTests16 l m part) (contentTests4 l m part)) ≡ true
+      by true = refl
+      by false = refl
 
 -- ---- the coder's record
 
@@ -110,7 +87,7 @@ module _ (l : Layout) (qp : ℕ) (legal : qp ≤ highest) (original : List ℕ) 
   pub qp-record-from : qpIn (recordFrom l qp original m before) ≡ qp
   unfolding recordFrom
   qp-record-from =
-      either (λ (r : List ℕ). qpIn r ≡ qp) (together l qp original m before) (qp-said16 l qp original m before) (qp-said l qp legal original bytes m before small)
+      whichever (λ (r : List ℕ). qpIn r ≡ qp) (together l qp original m before) (qp-said16 l qp original m before) (qp-said l qp legal original bytes m before small)
 
   pub content-own : chain (contentTests l m (recordFrom l qp original m before)) ≡ pass
   unfolding recordFrom

@@ -19,7 +19,7 @@ use Rattle.macroblock16.specs.Rebuild.{rebuiltStep16}
 use Rattle.macroblock16.proofs.Looks.{rebuilt-step16, coded-step16, sad-looks16, record-looks16, coded-bytes16}
 use Rattle.macroblock.specs.Code.{recordFrom, codedStep}
 use Rattle.macroblock.specs.Rebuild.{rebuiltStep}
-use Rattle.macroblock.proofs.RecordFrom.{either, together}
+use Rattle.macroblock.proofs.RecordFrom.{whichever, together}
 
 module _ (l : Layout) (some : 0 < l .width) (m : ℕ) (among : m < countOf l) where
   pub rebuilt-step : (part : List ℕ) → MacroblockStep 16 l m (rebuiltStep l m part)
@@ -47,4 +47,4 @@ module _ (l : Layout) (some : 0 < l .width) (m : ℕ) (among : m < countOf l) wh
 pub coded-bytes : (l : Layout) (qp : ℕ) → qp ≤ highest → (original : List ℕ) → Bytes original → (m : ℕ) (before : List ℕ) → Bytes before → Bytes (codedStep l qp original m before)
 unfolding codedStep
 coded-bytes l qp legal original bytes m before small =
-    either Bytes (together l qp original m before) (coded-bytes16 l qp original m before small) (coded-bytes4 l qp legal original bytes m before small)
+    whichever Bytes (together l qp original m before) (coded-bytes16 l qp original m before small) (coded-bytes4 l qp legal original bytes m before small)

@@ -1,18 +1,13 @@
 -- The record of a coded macroblock, of whichever kind.
---     record-home                                a record that was written over the front of what was lent
---     either                                     what holds of both candidates holds of the one that is taken
+--     whichever                                  what holds of both candidates holds of the one that is taken
 --     length-record-from, own-record-from        it has at most 527 bytes; its form is fine
 -- Assumes nothing.
 use mathlib.Core.Bool.{Bool, true, false, cond}
-use mathlib.Core.Path.{_≡_, ap, _∙_}
 use mathlib.Core.List.{List}
-use Prim.Native.Nat.{ℕ, _-_, _≤_}
+use Prim.Native.Nat.{ℕ, _≤_}
 use native.Mathlib.Omega.{arith}
-use borrow.Rule.Slice.PartMut.{putMid}
 use lib.Dec.{ltb}
 use lib.ListN.{length}
-use Rattle.lists.specs.Parts.{over}
-use Rattle.lists.proofs.Parts.{front-home}
 use Rattle.record.specs.Kinds.{inFours, lengthOf, expectedLuma}
 use Rattle.record.proofs.Back.{Own}
 use Rattle.picture.specs.declared.Layout.{Layout}
@@ -23,13 +18,9 @@ use Rattle.macroblock16.specs.Code.{sadFrom16}
 use Rattle.macroblock16.proofs.CodedRecord.{length-record-from16, own-record-from16}
 use Rattle.macroblock.specs.Code.{recordFrom}
 
--- w, which is written over n bytes, is the record made
-pub record-home : (file w made : List ℕ) (n long : ℕ) → n ≡ long → w ≡ made → length made ≡ long → (n ≡ long) × (putMid 0 (n - 0) file w ≡ over made file)
-record-home file w made n long e is l = (e, front-home file w n (omega (arith, ap length is, l, e)) ∙ ap (λ (x : List ℕ). over x file) is)
-
-pub either : {A : Type 0} (P : A → Type 0) (b : Bool) {x y : A} → P x → P y → P (cond b x y)
-either P true p q = p
-either P false p q = q
+pub whichever : {A : Type 0} (P : A → Type 0) (b : Bool) {x y : A} → P x → P y → P (cond b x y)
+whichever P true p q = p
+whichever P false p q = q
 
 module _ (l : Layout) (qp : ℕ) (original : List ℕ) (m : ℕ) (before : List ℕ) where
   -- whether 16x16 is taken
@@ -39,9 +30,9 @@ module _ (l : Layout) (qp : ℕ) (original : List ℕ) (m : ℕ) (before : List 
   pub length-record-from : length (recordFrom l qp original m before) ≤ lengthOf inFours
   unfolding recordFrom
   length-record-from =
-      either (λ (r : List ℕ). length r ≤ lengthOf inFours) together
+      whichever (λ (r : List ℕ). length r ≤ lengthOf inFours) together
       (omega (arith, length-record-from16 l qp original m before)) (omega (arith, length-record-from4 l qp original m before))
 
   pub own-record-from : Own (expectedLuma m) (recordFrom l qp original m before)
   unfolding recordFrom
-  own-record-from = either (Own (expectedLuma m)) together (own-record-from16 l qp original m before) (own-record-from4 l qp original m before)
+  own-record-from = whichever (Own (expectedLuma m)) together (own-record-from16 l qp original m before) (own-record-from4 l qp original m before)

@@ -1,16 +1,12 @@
 // What a picture asks of one macroblock: whether its record's content is fine, its step by that record, and its record and step when coded.
 ghost use mathlib.Core.Path.{_≡_};
-ghost use Prim.Native.Nat.{ℕ, _<_, _≤_};
-ghost use lib.IntN.{pos};
-ghost use lib.ListN.{length, getD};
-ghost use mir.Syntax.{w16};
-ghost use mir.Val.{SFits};
+ghost use Prim.Native.Nat.{_≤_};
+ghost use lib.ListN.{length};
 ghost use Rattle.lists.specs.Chain.{chain, pass};
 ghost use Rattle.lists.specs.Parts.{over};
 ghost use Rattle.refusal.specs.Number.{said};
 ghost use Rattle.quantizer.specs.Range.{highest};
-ghost use Rattle.record.specs.Kinds.{inFours, inWhole, lengthOf};
-ghost use Rattle.record.specs.Records.{recordOf, recordWhole};
+ghost use Rattle.record.specs.Kinds.{inFours, lengthOf};
 ghost use Rattle.picture.specs.Order.{Among};
 ghost use Rattle.picture.specs.Plane.{planeLength};
 ghost use Rattle.macroblock.specs.Code.{recordFrom, codedStep};
@@ -64,48 +60,6 @@ pub(crate) fn winner<'a>(
     }
 }
 
-// A record of 16x16 over the front of what is lent; answers how many bytes that were.
-fn whole_over(m: usize, quantizer: Quantizer, mode: u8, levels: &[i32], file: &mut [u8]) -> usize
-    requires { ⌜ (m < 16384) × (lengthOf inFours ≤ length (now file)) ⌝ }
-    requires { ⌜ (length (now levels) ≡ inWhole .levels) × ((k : ℕ) → SFits w16 (getD (now levels) k (pos 0))) ⌝ }
-    ensures { λ r. ⌜ r ≡ lengthOf inWhole ⌝ }
-    ensures { λ r. ⌜ now (file .exit) ≡ over (recordWhole m (quantizer .qp) mode (now (levels .entry))) (now (file .entry)) ⌝ }
-{
-    let long = record::inner::whole_length();
-    record::inner::write_whole(
-        m as u16,
-        quantizer.number(),
-        mode,
-        levels,
-        &mut file[0..long],
-    );
-    long
-}
-
-// A record of 4x4 blocks, likewise.
-fn fours_over(
-    m: usize,
-    quantizer: Quantizer,
-    modes: [u8; 16],
-    levels: &[i32],
-    file: &mut [u8],
-) -> usize
-    requires { ⌜ (m < 16384) × (lengthOf inFours ≤ length (now file)) × ((k : ℕ) → getD modes k 0 < 16) ⌝ }
-    requires { ⌜ (length (now levels) ≡ inFours .levels) × ((k : ℕ) → SFits w16 (getD (now levels) k (pos 0))) ⌝ }
-    ensures { λ r. ⌜ r ≡ lengthOf inFours ⌝ }
-    ensures { λ r. ⌜ now (file .exit) ≡ over (recordOf m (quantizer .qp) modes (now (levels .entry))) (now (file .entry)) ⌝ }
-{
-    let long = record::inner::fours_length();
-    record::inner::write_fours(
-        m as u16,
-        quantizer.number(),
-        modes,
-        levels,
-        &mut file[0..long],
-    );
-    long
-}
-
 // Macroblock m into a record at the front of what is lent; answers how many bytes that were. Both candidates are coded into an area of
 // levels each: 16x16 first, which only reads the rebuilt plane, then 4x4, whose samples stay there unless 16x16 wins.
 pub fn code_macroblock(
@@ -144,11 +98,12 @@ pub fn code_macroblock(
     );
     let together = whole.cost as u64;
     let levels = winner(&four, &sixteen, fours.sad, together);
+    let qp = quantizer.number();
     if together < fours.sad {
         macroblock16::inner::store_macroblock16(layout, m, quantizer, &prediction, levels, rebuilt);
-        whole_over(m, quantizer, whole.mode, levels, file)
+        record::inner::write_whole(m as u16, qp, whole.mode, levels, file)
     } else {
         let modes = fours.modes;
-        fours_over(m, quantizer, modes, levels, file)
+        record::inner::write_fours(m as u16, qp, modes, levels, file)
     }
 }

@@ -1,25 +1,23 @@
 -- What the tests of a chroma record's content come to, and what a fine content gives.
 --     both-small                         levels read from a file have 16 bits
---     in-range                           the two tests of a plane's range, in one
---     cb-outside, cr-outside, mode-lacking-chroma, range-far-chroma     the refusals
+--     range-parts                        the two tests of a plane's range, in one
+--     offset-outside, mode-lacking-chroma, range-far-chroma     the refusals
 --     fine-chroma, content-fine-chroma   the tests pass exactly if the content is fine, at whatever place
 --     chroma-not-broken                  none of the refusals says that the file is broken
 -- Assumes nothing.
-use mathlib.Core.Path.{_≡_, refl, sym, ap, _∙_}
+use mathlib.Core.Path.{_≡_, refl, sym}
 use mathlib.Core.Bool.{Bool, true, false, _&&_}
-use mathlib.Core.List.{List, [], _∷_}
-use mathlib.Core.Logic.{inl, inr}
+use mathlib.Core.List.{List, [], _∷_, _++_}
 use Prim.Native.Nat.{ℕ, _+_, _*_}
 use lib.Dec.{eqb}
 use lib.IntN.{ℤ, pos}
 use borrow.Author.Tests.{eqb-true}
-use Rattle.lists.specs.Chain.{test, pass, stop, chain, RefusedWith}
+use Rattle.lists.specs.Chain.{Test, test, pass, stop, chain}
 use Rattle.lists.proofs.Chain.{chain-exactly-if}
 use Rattle.lists.proofs.Every.{both-true}
-use Rattle.refusal.specs.Faults.{isBroken}
 use Rattle.refusal.specs.declared.Refusal.{Refusal}
 use Rattle.refusal.specs.declared.Refusal.the-variants as refusal
-use Rattle.refusal.proofs.Faults.{false-not-true}
+use Rattle.refusal.proofs.Faults.{false-not-true, noneBroken}
 use Rattle.whole.specs.Bounds.{Each}
 use Rattle.whole.specs.Notation.{minus}
 use Rattle.whole.specs.Range.{inside}
@@ -32,7 +30,7 @@ use Rattle.record.specs.Kinds.{inChroma}
 use Rattle.record.specs.Records.{levelWith, allLevelsIn, cbOffsetIn, crOffsetIn, chromaModeIn}
 use Rattle.picture.specs.declared.Layout.{Layout}
 use Rattle.picture.specs.Whole.{flagsRound}
-use Rattle.macroblock_chroma.specs.Content.{cbLevelsIn, crLevelsIn, cbQuantizer, crQuantizer, contentTestsChroma}
+use Rattle.macroblock_chroma.specs.Content.{cbLevelsIn, crLevelsIn, cbQuantizer, crQuantizer, planeRanges, contentTestsChroma}
 use Rattle.macroblock_chroma.specs.Fine.{inRange, FineChroma}
 
 pub both-small : (part : List ℕ) → Each 32768 (allLevelsIn inChroma part)
@@ -42,13 +40,18 @@ both-small part = each-tab 32768 128 (λ i. levelWith inChroma i part) (λ i h. 
 -- ---- the verdicts
 
 -- the two tests of a plane's range, in one
-pub in-range : (qp : ℕ) (levels : List ℤ) → inRange qp levels ≡ true → (dcFits 8 qp levels ≡ true) × (firstAc 8 qp levels ≡ 4)
+pub range-parts : (qp : ℕ) (levels : List ℤ) → inRange qp levels ≡ true → (dcFits 8 qp levels ≡ true) × (firstAc 8 qp levels ≡ 4)
 unfolding inRange
-in-range qp levels e =
+range-parts qp levels e =
     let b = both-true (dcFits 8 qp levels) (eqb (firstAc 8 qp levels) 4) e in
     (b .0, eqb-true (firstAc 8 qp levels) 4 (b .1))
 
--- four tests with one refusal
+-- tests with one refusal, two before others or four
+either-fails : {r : Refusal} (a b : Bool) (rest : List (Test Refusal)) → (a && b) ≡ false → chain (test a r ∷ test b r ∷ rest) ≡ stop r
+either-fails false b rest e = refl
+either-fails true false rest e = refl
+either-fails true true rest e = absurd (false-not-true (sym e))
+
 one-fails : {r : Refusal} (a b c d : Bool) → ((a && b) && (c && d)) ≡ false → chain (test a r ∷ test b r ∷ test c r ∷ test d r ∷ []) ≡ stop r
 one-fails false b c d e = refl
 one-fails true false c d e = refl
@@ -57,29 +60,28 @@ one-fails true true true false e = refl
 one-fails true true true true e = absurd (false-not-true (sym e))
 
 module _ (l : Layout) (m qp place : ℕ) (part : List ℕ) where
-  pub cb-outside : inside (minus 12) (pos 12) (cbOffsetIn part) ≡ false → chain (contentTestsChroma l m qp place part) ≡ stop (refusal.Quantizer place)
+  pub offset-outside : (inside (minus 12) (pos 12) (cbOffsetIn part) && inside (minus 12) (pos 12) (crOffsetIn part)) ≡ false
+      → chain (contentTestsChroma l m qp place part) ≡ stop (refusal.Quantizer place)
   unfolding contentTestsChroma
-  cb-outside e = simp e
+  offset-outside e =
+      either-fails (inside (minus 12) (pos 12) (cbOffsetIn part)) (inside (minus 12) (pos 12) (crOffsetIn part))
+      (test (permitted (flagsRound 8 l m) (chromaModeIn part)) (refusal.Mode place)
+      ∷ (planeRanges place (cbQuantizer qp part) (cbLevelsIn part) ++ planeRanges place (crQuantizer qp part) (crLevelsIn part))) e
 
-  module _ (cb : inside (minus 12) (pos 12) (cbOffsetIn part) ≡ true) where
-    pub cr-outside : inside (minus 12) (pos 12) (crOffsetIn part) ≡ false → chain (contentTestsChroma l m qp place part) ≡ stop (refusal.Quantizer place)
+  module _ (cb : inside (minus 12) (pos 12) (cbOffsetIn part) ≡ true) (cr : inside (minus 12) (pos 12) (crOffsetIn part) ≡ true) where
+    pub mode-lacking-chroma : permitted (flagsRound 8 l m) (chromaModeIn part) ≡ false → chain (contentTestsChroma l m qp place part) ≡ stop (refusal.Mode place)
     unfolding contentTestsChroma
-    cr-outside e = simp (cb, e)
+    mode-lacking-chroma e = simp (cb, cr, e)
 
-    module _ (cr : inside (minus 12) (pos 12) (crOffsetIn part) ≡ true) where
-      pub mode-lacking-chroma : permitted (flagsRound 8 l m) (chromaModeIn part) ≡ false → chain (contentTestsChroma l m qp place part) ≡ stop (refusal.Mode place)
-      unfolding contentTestsChroma
-      mode-lacking-chroma e = simp (cb, cr, e)
-
-      module _ (mode : permitted (flagsRound 8 l m) (chromaModeIn part) ≡ true) where
-        -- one place for all ranges: whichever of the four fails
-        pub range-far-chroma : (inRange (cbQuantizer qp part) (cbLevelsIn part) && inRange (crQuantizer qp part) (crLevelsIn part)) ≡ false
-            → chain (contentTestsChroma l m qp place part) ≡ stop (refusal.Range place)
-        unfolding contentTestsChroma inRange
-        range-far-chroma e =
-            simp (cb, cr, mode)
-            (one-fails (dcFits 8 (cbQuantizer qp part) (cbLevelsIn part)) (eqb (firstAc 8 (cbQuantizer qp part) (cbLevelsIn part)) 4)
-            (dcFits 8 (crQuantizer qp part) (crLevelsIn part)) (eqb (firstAc 8 (crQuantizer qp part) (crLevelsIn part)) 4) e)
+    module _ (mode : permitted (flagsRound 8 l m) (chromaModeIn part) ≡ true) where
+      -- one place for all ranges: whichever of the four fails
+      pub range-far-chroma : (inRange (cbQuantizer qp part) (cbLevelsIn part) && inRange (crQuantizer qp part) (crLevelsIn part)) ≡ false
+          → chain (contentTestsChroma l m qp place part) ≡ stop (refusal.Range place)
+      unfolding contentTestsChroma inRange
+      range-far-chroma e =
+          simp (cb, cr, mode)
+          (one-fails (dcFits 8 (cbQuantizer qp part) (cbLevelsIn part)) (eqb (firstAc 8 (cbQuantizer qp part) (cbLevelsIn part)) 4)
+          (dcFits 8 (crQuantizer qp part) (crLevelsIn part)) (eqb (firstAc 8 (crQuantizer qp part) (crLevelsIn part)) 4) e)
 
   pub fine-chroma : chain (contentTestsChroma l m qp place part) ≡ pass → FineChroma l m qp part
   unfolding contentTestsChroma inRange
@@ -101,16 +103,6 @@ content-fine-chroma {l} {m} {qp} {part} f place =
     let cr = both-true (dcFits 8 (crQuantizer qp part) (crLevelsIn part)) (eqb (firstAc 8 (crQuantizer qp part) (crLevelsIn part)) 4) (f .crRange) in
     simp (f .cbOffset, f .crOffset, f .mode, cb .0, cb .1, cr .0, cr .1)
 
-pub chroma-not-broken : (l : Layout) (m qp place : ℕ) (part : List ℕ) (r : Refusal) → isBroken r ≡ true → chain (contentTestsChroma l m qp place part) ≡ stop r → ⊥
+pub chroma-not-broken : (l : Layout) (m qp place : ℕ) (part : List ℕ) → noneBroken (contentTestsChroma l m qp place part) ≡ true
 unfolding contentTestsChroma
-chroma-not-broken l m qp place part r broken e = by (chain-exactly-if (contentTestsChroma l m qp place part) .refuses r .0 e)
-  where
-    by : RefusedWith (contentTestsChroma l m qp place part) r → ⊥
-    by (inl (a, q)) = false-not-true (sym (ap isBroken q) ∙ broken)
-    by (inr (a, inl (b, q))) = false-not-true (sym (ap isBroken q) ∙ broken)
-    by (inr (a, inr (b, inl (c, q)))) = false-not-true (sym (ap isBroken q) ∙ broken)
-    by (inr (a, inr (b, inr (c, inl (d, q))))) = false-not-true (sym (ap isBroken q) ∙ broken)
-    by (inr (a, inr (b, inr (c, inr (d, inl (f, q)))))) = false-not-true (sym (ap isBroken q) ∙ broken)
-    by (inr (a, inr (b, inr (c, inr (d, inr (f, inl (g, q))))))) = false-not-true (sym (ap isBroken q) ∙ broken)
-    by (inr (a, inr (b, inr (c, inr (d, inr (f, inr (g, inl (h, q)))))))) = false-not-true (sym (ap isBroken q) ∙ broken)
-    by (inr (a, inr (b, inr (c, inr (d, inr (f, inr (g, inr (h, q)))))))) = q
+chroma-not-broken l m qp place part = refl

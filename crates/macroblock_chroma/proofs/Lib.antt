@@ -5,6 +5,5 @@ pub mod Looks
 pub mod Making
 pub mod Missing
 pub mod Offsets
-pub mod Own
 pub mod Unique
 pub mod Witness

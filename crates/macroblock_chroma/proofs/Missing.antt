@@ -28,7 +28,7 @@ use Rattle.picture.specs.Plane.{planeLength}
 use Rattle.picture.specs.Whole.{gatheredRound, AgreeRound, wholeOf, wholeTurn}
 use Rattle.picture.proofs.Round.{gathered-round-same}
 use Rattle.picture.proofs.Whole.{whole-back}
-use Rattle.macroblock_chroma.specs.Code.{modeForBoth, codedChroma, planeStepChroma, recordFromChroma, codedStepChroma}
+use Rattle.macroblock_chroma.specs.Code.{pair, modeForBoth, codedChroma, planeStepChroma, recordFromChroma, codedStepChroma}
 use Rattle.macroblock_chroma.specs.Rebuild.{samplesChroma}
 use Rattle.macroblock_chroma.proofs.CodedRecord.{length-record-from-chroma}
 use Rattle.macroblock_chroma.proofs.Looks.{SameAround, same-mode, same-record-chroma}
@@ -92,10 +92,10 @@ module _ (κs κs′ : Lfts 5) (a : Dens κs code-chroma.ps) (a′ : Dens κs′
 
   -- the planes as they were rebuilt before the macroblock
   abbrev before : Both
-  before = record { cb = now (a .1 .1 .1 .1 .1 .1 .1 .1 .0); cr = now (a .1 .1 .1 .1 .1 .1 .1 .1 .1 .0) }
+  before = pair (now (a .1 .1 .1 .1 .1 .1 .1 .1 .0)) (now (a .1 .1 .1 .1 .1 .1 .1 .1 .1 .0))
 
   abbrev before′ : Both
-  before′ = record { cb = now (a′ .1 .1 .1 .1 .1 .1 .1 .1 .0); cr = now (a′ .1 .1 .1 .1 .1 .1 .1 .1 .1 .0) }
+  before′ = pair (now (a′ .1 .1 .1 .1 .1 .1 .1 .1 .0)) (now (a′ .1 .1 .1 .1 .1 .1 .1 .1 .1 .0))
 
   -- the record in front, of what was lent for it
   abbrev recordLeft : List ℕ → List ℕ
@@ -113,18 +113,18 @@ module _ (κs κs′ : Lfts 5) (a : Dens κs code-chroma.ps) (a′ : Dens κs′
       let some = asked .0 .0 .sound .some in
       let among = asked .0 .0 .macroblock in
       let written′ = learnt′ .1 .0
-      ∙ (λ i. over (recordFromChroma (is-l i) (is-q i) (is-b i) (is-r i) (record { cb = is-cb i; cr = is-cr i }) (is-m i) before′) (now (a′ .1 .1 .1 .1 .1 .1 .1 .0))) in
-      let cb′ = learnt′ .1 .1 .0 ∙ (λ i. codedStepChroma (is-l i) (is-q i) (is-b i) (is-r i) (record { cb = is-cb i; cr = is-cr i }) (is-m i) before′ .cb) in
-      let cr′ = learnt′ .1 .1 .1 ∙ (λ i. codedStepChroma (is-l i) (is-q i) (is-b i) (is-r i) (record { cb = is-cb i; cr = is-cr i }) (is-m i) before′ .cr) in (
+      ∙ (λ i. over (recordFromChroma (is-l i) (is-q i) (is-b i) (is-r i) (pair (is-cb i) (is-cr i)) (is-m i) before′) (now (a′ .1 .1 .1 .1 .1 .1 .1 .0))) in
+      let both = learnt .1 .1 in
+      let both′ = learnt′ .1 .1 ∙ (λ i. codedStepChroma (is-l i) (is-q i) (is-b i) (is-r i) (pair (is-cb i) (is-cr i)) (is-m i) before′) in (
         ap recordLeft (learnt .1 .0)
-            ∙ take-at (recordFromChroma layout qp cbOffset crOffset (record { cb = cb; cr = cr }) number before) _ (lengthOf inChroma) (length-record-from-chroma layout qp cbOffset crOffset (record { cb = cb; cr = cr }) number before)
-            ∙ same-record-chroma layout (record { cb = cb; cr = cr }) number same qp cbOffset crOffset
+            ∙ take-at (recordFromChroma layout qp cbOffset crOffset (pair cb cr) number before) _ (lengthOf inChroma) (length-record-from-chroma layout qp cbOffset crOffset (pair cb cr) number before)
+            ∙ same-record-chroma layout (pair cb cr) number same qp cbOffset crOffset
             ∙ sym (ap recordLeft written′
-            ∙ take-at (recordFromChroma layout qp cbOffset crOffset (record { cb = cb; cr = cr }) number before′) _ (lengthOf inChroma) (length-record-from-chroma layout qp cbOffset crOffset (record { cb = cb; cr = cr }) number before′)),
-        ap (wholeOf 8 layout number) (learnt .1 .1 .0)
-            ∙ same-cb layout some number among qp cbOffset crOffset (record { cb = cb; cr = cr }) same (asked .1 .1 .0) (asked′ .1 .1 .0 ∙ ap (planeLength 8) is-l)
-            ∙ sym (ap (wholeOf 8 layout number) cb′),
-        ap (wholeOf 8 layout number) (learnt .1 .1 .1)
-            ∙ same-cr layout some number among qp cbOffset crOffset (record { cb = cb; cr = cr }) same (asked .1 .1 .1) (asked′ .1 .1 .1 ∙ ap (planeLength 8) is-l)
-            ∙ sym (ap (wholeOf 8 layout number) cr′),
+            ∙ take-at (recordFromChroma layout qp cbOffset crOffset (pair cb cr) number before′) _ (lengthOf inChroma) (length-record-from-chroma layout qp cbOffset crOffset (pair cb cr) number before′)),
+        ap (λ (b : Both). wholeOf 8 layout number (b .cb)) both
+            ∙ same-cb layout some number among qp cbOffset crOffset (pair cb cr) same (asked .1 .1 .0) (asked′ .1 .1 .0 ∙ ap (planeLength 8) is-l)
+            ∙ sym (ap (λ (b : Both). wholeOf 8 layout number (b .cb)) both′),
+        ap (λ (b : Both). wholeOf 8 layout number (b .cr)) both
+            ∙ same-cr layout some number among qp cbOffset crOffset (pair cb cr) same (asked .1 .1 .1) (asked′ .1 .1 .1 ∙ ap (planeLength 8) is-l)
+            ∙ sym (ap (λ (b : Both). wholeOf 8 layout number (b .cr)) both′),
       )

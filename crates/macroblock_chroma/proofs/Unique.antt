@@ -24,6 +24,5 @@ pub code-chroma-unique : Unique 5 code-chroma.ps code-chroma.r code-chroma-reads
     (λ κs e. (now (e .1 .1 .1 .1 .1 .1 .1 .0), now (e .1 .1 .1 .1 .1 .1 .1 .1 .0), now (e .1 .1 .1 .1 .1 .1 .1 .1 .1 .0)))
 code-chroma-unique κs a x y e f p q =
     let s = p .1 .0 ∙ sym (q .1 .0) in
-    let t = p .1 .1 .0 ∙ sym (q .1 .1 .0) in
-    let u = p .1 .1 .1 ∙ sym (q .1 .1 .1) in
-    (p .0 ∙ sym (q .0), λ i. (s i, t i, u i))
+    let t = p .1 .1 ∙ sym (q .1 .1) in
+    (p .0 ∙ sym (q .0), λ i. (s i, t i .cb, t i .cr))

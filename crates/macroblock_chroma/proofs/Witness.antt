@@ -36,7 +36,7 @@ use Rattle.chroma.specs.Choice.{chosenForBoth}
 use Rattle.chroma.specs.Rules.{predicted, permitted}
 use Rattle.residual_whole.specs.Area.{byBlocks, rasterPlace, rasterBlock}
 use Rattle.residual_whole.specs.Coded.{residualIn, wholeDc, dcLevels, wholeLevels}
-use Rattle.residual_whole.specs.Rebuilt.{acIn, dcValues, valuesIn, valueOf, blockSamples, wholeSamples, dcFits, acNumbers, acFits, firstAc}
+use Rattle.residual_whole.specs.Rebuilt.{acIn, dcValues, valuesIn, dcValueOf, blockSamples, wholeSamples, dcFits, acNumbers, acFits, firstAc}
 use Rattle.octets.specs.Numbers.{levelBytes}
 use Rattle.octets.specs.Sum.{summed}
 use Rattle.record.specs.Records.{recordChroma, recordWith, allLevelsIn}
@@ -45,7 +45,7 @@ use Rattle.picture.specs.Order.{blockTable, blockIn, tablePlace, columnIn, rowI
 use Rattle.picture.specs.Plane.{layoutOf, blockAt, stored}
 use Rattle.picture.specs.Presence.{sameSlice, macroblockPresent}
 use Rattle.picture.specs.Whole.{presentRound, flagsRound, roundSample, gatheredRound, wholeTurn}
-use Rattle.macroblock_chroma.specs.Code.{modeForBoth, levelsChroma, recordFromChroma}
+use Rattle.macroblock_chroma.specs.Code.{pair, modeForBoth, levelsChroma, recordFromChroma}
 use Rattle.macroblock_chroma.specs.Content.{cbLevelsIn, crLevelsIn, contentTestsChroma}
 use Rattle.macroblock_chroma.specs.Rebuild.{predictionChroma, samplesChroma, cbStep, crStep}
 
@@ -68,7 +68,7 @@ range-last = (refl, refl, refl)
 
 -- both planes of 138; what stood in the rebuilt planes has no value, as no neighbour is present
 abbrev grey : Both
-grey = record { cb = replicate 64 138; cr = replicate 64 138 }
+grey = pair (replicate 64 138) (replicate 64 138)
 
 abbrev said : List ℕ → List ℕ
 said part = take 5 (drop 4 part) ++ take 2 (drop 135 part)
@@ -82,5 +82,5 @@ abbrev firstTwo : List ℕ → List ℕ
 firstTwo part = getD (cbStep (layoutOf 1 1) 0 28 part (replicate 64 0)) 0 0 ∷ getD (crStep (layoutOf 1 1) 0 28 part (replicate 64 0)) 0 0 ∷ []
 
 pub rebuilt-by-offsets : (firstTwo (twoFirst 0 250 0 0 5 0 5) ≡ 138 ∷ 133 ∷ []) × (firstTwo (twoFirst 250 0 0 0 5 0 5) ≡ 133 ∷ 138 ∷ [])
-unfolding cbStep crStep wholeTurn samplesChroma wholeSamples byBlocks blockSamples valueOf rasterPlace rebuiltSamples added inverse stored stores cbLevelsIn crLevelsIn allLevelsIn predictionChroma gatheredRound roundSample flagsRound presentRound macroblockPresent sameSlice bitOf predicted grid tab blockAt columnIn rowIn tablePlace blockIn blockTable first dcValues valuesIn chromaValues chromaScaled clip hadamard inPlaces inZigzag scaledBy acIn rescaled
+unfolding cbStep crStep wholeTurn samplesChroma wholeSamples byBlocks blockSamples dcValueOf rasterPlace rebuiltSamples added inverse stored stores cbLevelsIn crLevelsIn allLevelsIn predictionChroma gatheredRound roundSample flagsRound presentRound macroblockPresent sameSlice bitOf predicted grid tab blockAt columnIn rowIn tablePlace blockIn blockTable first dcValues valuesIn chromaValues chromaScaled clip hadamard inPlaces inZigzag scaledBy acIn rescaled
 rebuilt-by-offsets = (refl, refl)

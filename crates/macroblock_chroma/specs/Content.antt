@@ -1,5 +1,6 @@
 -- The content of a chroma record: "QUANTIZER for either offset, Cb first; MODE above 3 or needing what is missing; then ranges. The place of the
 -- last three is the chroma record's first byte" (02, Req 05). Assumes nothing.
+use mathlib.Core.Bool.{cond, _&&_}
 use mathlib.Core.List.{List, [], _∷_, _++_}
 use Prim.Native.Nat.{ℕ}
 use lib.IntN.{ℤ, pos}
@@ -16,6 +17,8 @@ use Rattle.record.specs.Kinds.{inChroma}
 use Rattle.record.specs.Records.{allLevelsIn, cbOffsetIn, crOffsetIn, chromaModeIn}
 use Rattle.picture.specs.declared.Layout.{Layout}
 use Rattle.picture.specs.Whole.{flagsRound}
+use Rattle.macroblock_chroma.specs.declared.Quantizers.{Quantizers}
+use Rattle.macroblock_chroma.specs.declared.Quantizers.the-variants.{Legal, Refused}
 
 -- "64 levels of Cb then of Cr (4 DC, then 4 times 15 AC)"
 unfoldable pub cbLevelsIn : List ℕ → List ℤ
@@ -30,6 +33,13 @@ cbQuantizer qp part = chromaOf qp (cbOffsetIn part)
 
 abbrev pub crQuantizer : (qp : ℕ) → List ℕ → ℕ
 crQuantizer qp part = chromaOf qp (crOffsetIn part)
+
+-- both, where both offsets are "of -12 to 12" (01)
+unfoldable pub quantizersOf : (qp : ℕ) → (cbOffset crOffset : ℤ) → Quantizers
+quantizersOf qp cbOffset crOffset =
+    cond (inside (minus 12) (pos 12) cbOffset && inside (minus 12) (pos 12) crOffset)
+    (Legal (record { qp = chromaOf qp cbOffset }) (record { qp = chromaOf qp crOffset }))
+    Refused
 
 -- "QUANTIZER for either offset": it is "of -12 to 12" (01)
 abbrev pub offsetTest : (place : ℕ) → ℤ → Test Refusal

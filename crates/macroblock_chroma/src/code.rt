@@ -1,21 +1,15 @@
-// A macroblock's chroma when coded: its mode and its predictions, its levels and samples, its record.
+// A macroblock's chroma when coded: its mode and its predictions, its levels and samples.
 ghost use mathlib.Core.List.{_++_};
 ghost use mathlib.Core.Path.{_≡_};
-ghost use Prim.Native.Nat.{ℕ, _<_, _≤_};
-ghost use lib.IntN.{pos};
-ghost use lib.ListN.{length, getD};
-ghost use mir.Syntax.{w8, w16};
-ghost use mir.Val.{SFits};
-ghost use Rattle.lists.specs.Parts.{over};
+ghost use Prim.Native.Nat.{_≤_};
+ghost use lib.ListN.{length};
 ghost use Rattle.quantizer.specs.Range.{highest};
 ghost use Rattle.residual_whole.specs.Coded.{wholeLevels};
 ghost use Rattle.residual_whole.specs.Rebuilt.{wholeSamples};
-ghost use Rattle.record.specs.Kinds.{inChroma, lengthOf};
-ghost use Rattle.record.specs.Records.{recordChroma};
 ghost use Rattle.picture.specs.Order.{Among};
 ghost use Rattle.picture.specs.Plane.{planeLength};
 ghost use Rattle.picture.specs.Whole.{wholeOf, withWhole};
-ghost use Rattle.macroblock_chroma.specs.Code.{PredictsBoth};
+ghost use Rattle.macroblock_chroma.specs.Code.{pair, PredictsBoth};
 use crate::rebuild;
 use picture::Layout;
 use quantizer::Quantizer;
@@ -34,7 +28,7 @@ pub(crate) fn predict_both(
     requires { ⌜ (Among layout m 0) × (length (now cb) ≡ planeLength 8 layout) × (length (now cr) ≡ planeLength 8 layout) ⌝ }
     requires { ⌜ (length (now «cb_rebuilt») ≡ planeLength 8 layout) × (length (now «cr_rebuilt») ≡ planeLength 8 layout) ⌝ }
     requires { ⌜ (length (now «cb_prediction») ≡ 64) × (length (now «cr_prediction») ≡ 64) ⌝ }
-    ensures { λ r. ⌜ PredictsBoth layout m (record { cb = now (cb .entry); cr = now (cr .entry) }) (record { cb = now («cb_rebuilt» .entry); cr = now («cr_rebuilt» .entry) }) r (now («cb_prediction» .exit)) (now («cr_prediction» .exit)) ⌝ }
+    ensures { λ r. ⌜ PredictsBoth layout m (pair (now (cb .entry)) (now (cr .entry))) (pair (now («cb_rebuilt» .entry)) (now («cr_rebuilt» .entry))) r (now («cb_prediction» .exit)) (now («cr_prediction» .exit)) ⌝ }
 {
     let flags = picture::inner::flags_round(layout, m);
     let mut cb_neighbours = [0u8; 17];
@@ -116,23 +110,4 @@ pub(crate) fn code_both(
         &mut levels[64..128],
         cr_out,
     );
-}
-
-// A chroma record over the front of what is lent; answers how many bytes that were.
-pub(crate) fn chroma_over(
-    m: usize,
-    cb: i32,
-    cr: i32,
-    mode: u8,
-    levels: &[i32],
-    file: &mut [u8],
-) -> usize
-    requires { ⌜ (m < 16384) × (lengthOf inChroma ≤ length (now file)) × (SFits w8 cb) × (SFits w8 cr) ⌝ }
-    requires { ⌜ (length (now levels) ≡ inChroma .levels) × ((k : ℕ) → SFits w16 (getD (now levels) k (pos 0))) ⌝ }
-    ensures { λ r. ⌜ r ≡ lengthOf inChroma ⌝ }
-    ensures { λ r. ⌜ now (file .exit) ≡ over (recordChroma m cb cr mode (now (levels .entry))) (now (file .entry)) ⌝ }
-{
-    let long = record::inner::chroma_length();
-    record::inner::write_chroma(m as u16, cb, cr, mode, levels, &mut file[0..long]);
-    long
 }

@@ -13,10 +13,11 @@ ghost use Rattle.quantizer.specs.Range.{highest};
 ghost use Rattle.record.specs.Kinds.{inChroma, lengthOf};
 ghost use Rattle.picture.specs.Order.{Among};
 ghost use Rattle.picture.specs.Plane.{planeLength};
-ghost use Rattle.macroblock_chroma.specs.Code.{recordFromChroma, codedStepChroma};
-ghost use Rattle.macroblock_chroma.specs.Content.{contentTestsChroma};
+ghost use Rattle.macroblock_chroma.specs.Code.{pair, recordFromChroma, codedStepChroma};
+ghost use Rattle.macroblock_chroma.specs.Content.{quantizersOf, contentTestsChroma};
 ghost use Rattle.macroblock_chroma.specs.Fine.{FineChroma};
 ghost use Rattle.macroblock_chroma.specs.Rebuild.{cbStep, crStep};
+use crate::Quantizers;
 use crate::code;
 use crate::content;
 use crate::rebuild;
@@ -25,15 +26,28 @@ use quantizer::Built;
 use refusal::Answer;
 use refusal::Refusal;
 
+// Both quantizers of a macroblock's QP: Cb and Cr have an offset each.
+fn both_quantizers(qp: u8, cb_offset: i32, cr_offset: i32) -> Quantizers
+    requires { ⌜ qp ≤ highest ⌝ }
+    ensures { λ r. ⌜ r ≡ quantizersOf qp «cb_offset» «cr_offset» ⌝ }
+{
+    let Built::Legal(cb) = quantizer::chroma_quantizer(qp, cb_offset) else {
+        return Quantizers::Refused;
+    };
+    let Built::Legal(cr) = quantizer::chroma_quantizer(qp, cr_offset) else {
+        return Quantizers::Refused;
+    };
+    Quantizers::Legal(cb, cr)
+}
+
 // The content of macroblock m's chroma record, which begins at a place of the file: QUANTIZER of Cb's offset and of Cr's, MODE, then RANGE.
 pub fn test_chroma(layout: Layout, m: usize, qp: u8, place: usize, part: &[u8]) -> Answer
     requires { ⌜ (Among layout m 0) × (qp ≤ highest) × (length (now part) ≡ lengthOf inChroma) ⌝ }
     ensures { λ r. ⌜ said r ≡ chain (contentTestsChroma layout m qp place (now (part .entry))) ⌝ }
 {
-    let Built::Legal(cb) = quantizer::chroma_quantizer(qp, record::inner::cb_offset(part)) else {
-        return Answer::Refused(Refusal::Quantizer(place));
-    };
-    let Built::Legal(cr) = quantizer::chroma_quantizer(qp, record::inner::cr_offset(part)) else {
+    let cb_offset = record::inner::cb_offset(part);
+    let cr_offset = record::inner::cr_offset(part);
+    let Quantizers::Legal(cb, cr) = both_quantizers(qp, cb_offset, cr_offset) else {
         return Answer::Refused(Refusal::Quantizer(place));
     };
     let flags = picture::inner::flags_round(layout, m);
@@ -55,11 +69,9 @@ pub fn rebuild_chroma(layout: Layout, m: usize, qp: u8, part: &[u8], cb: &mut [u
     ensures { λ _. ⌜ now (cb .exit) ≡ cbStep layout m qp (now (part .entry)) (now (cb .entry)) ⌝ }
     ensures { λ _. ⌜ now (cr .exit) ≡ crStep layout m qp (now (part .entry)) (now (cr .entry)) ⌝ }
 {
-    let Built::Legal(first) = quantizer::chroma_quantizer(qp, record::inner::cb_offset(part)) else {
-        return;
-    };
-    let Built::Legal(second) = quantizer::chroma_quantizer(qp, record::inner::cr_offset(part))
-    else {
+    let cb_offset = record::inner::cb_offset(part);
+    let cr_offset = record::inner::cr_offset(part);
+    let Quantizers::Legal(first, second) = both_quantizers(qp, cb_offset, cr_offset) else {
         return;
     };
     let flags = picture::inner::flags_round(layout, m);
@@ -86,14 +98,10 @@ pub fn code_chroma(
     requires { ⌜ (length (now cb) ≡ planeLength 8 layout) × (length (now cr) ≡ planeLength 8 layout) × (lengthOf inChroma ≤ length (now file)) ⌝ }
     requires { ⌜ (length (now «cb_out») ≡ planeLength 8 layout) × (length (now «cr_out») ≡ planeLength 8 layout) ⌝ }
     ensures { λ r. ⌜ r ≡ lengthOf inChroma ⌝ }
-    ensures { λ r. ⌜ now (file .exit) ≡ over (recordFromChroma layout qp «cb_offset» «cr_offset» (record { cb = now (cb .entry); cr = now (cr .entry) }) m (record { cb = now («cb_out» .entry); cr = now («cr_out» .entry) })) (now (file .entry)) ⌝ }
-    ensures { λ r. ⌜ now («cb_out» .exit) ≡ codedStepChroma layout qp «cb_offset» «cr_offset» (record { cb = now (cb .entry); cr = now (cr .entry) }) m (record { cb = now («cb_out» .entry); cr = now («cr_out» .entry) }) .cb ⌝ }
-    ensures { λ r. ⌜ now («cr_out» .exit) ≡ codedStepChroma layout qp «cb_offset» «cr_offset» (record { cb = now (cb .entry); cr = now (cr .entry) }) m (record { cb = now («cb_out» .entry); cr = now («cr_out» .entry) }) .cr ⌝ }
+    ensures { λ r. ⌜ now (file .exit) ≡ over (recordFromChroma layout qp «cb_offset» «cr_offset» (pair (now (cb .entry)) (now (cr .entry))) m (pair (now («cb_out» .entry)) (now («cr_out» .entry)))) (now (file .entry)) ⌝ }
+    ensures { λ r. ⌜ pair (now («cb_out» .exit)) (now («cr_out» .exit)) ≡ codedStepChroma layout qp «cb_offset» «cr_offset» (pair (now (cb .entry)) (now (cr .entry))) m (pair (now («cb_out» .entry)) (now («cr_out» .entry))) ⌝ }
 {
-    let Built::Legal(first) = quantizer::chroma_quantizer(qp, cb_offset) else {
-        return 0;
-    };
-    let Built::Legal(second) = quantizer::chroma_quantizer(qp, cr_offset) else {
+    let Quantizers::Legal(first, second) = both_quantizers(qp, cb_offset, cr_offset) else {
         return 0;
     };
     let mut cb_prediction = [0u8; 64];
@@ -122,5 +130,5 @@ pub fn code_chroma(
         cb_out,
         cr_out,
     );
-    code::chroma_over(m, cb_offset, cr_offset, mode, &levels, file)
+    record::inner::write_chroma(m as u16, cb_offset, cr_offset, mode, &levels, file)
 }

@@ -3,3 +3,11 @@ mod code;
 mod content;
 pub mod inner;
 mod rebuild;
+
+use quantizer::Quantizer;
+
+// The quantizers of Cb and Cr, where both offsets are in their range.
+pub(crate) enum Quantizers {
+    Legal(Quantizer, Quantizer),
+    Refused,
+}

@@ -5,7 +5,7 @@
 --     turn-step                a block's turn is a step, from its number over the 4x4 blocks that it covers
 --     turns-agree, turns-look  the first turns of a macroblock: planes that agreed where it sees do so then, and the next block sees the same
 --     turns-step               the turns of a macroblock's blocks of n by n are a step of it
---     turns-eight, turns-sixteen, turns-four     these turns written out; those of 4 by 4 by the numbers of blocks
+--     turns-four               those of 4 by 4, by the numbers of blocks
 --     turns-follow             two ways of making blocks that make the same of what each block sees
 -- Assumes nothing.
 use mathlib.Core.Path.{_≡_, refl, sym, ap, _∙_}
@@ -126,16 +126,6 @@ module _ (n : ℕ) (size : Size n) (make : ℕ → ℕ → List ℕ → List ℕ
       (first-turns (blockCount n) (omega arith))
 
 -- ---- what the turns are
-
--- of 8 by 8 and of 16 by 16, written out
-pub turns-eight : (make : ℕ → ℕ → List ℕ → List ℕ) (l : Layout) (m : ℕ) (p : List ℕ)
-    → turns 8 make l m p ≡ turn 8 make l m 12 (turn 8 make l m 8 (turn 8 make l m 4 (turn 8 make l m 0 p)))
-unfolding firstTurns covers blockCount fold
-turns-eight make l m p = refl
-
-pub turns-sixteen : (make : ℕ → ℕ → List ℕ → List ℕ) (l : Layout) (m : ℕ) (p : List ℕ) → turns 16 make l m p ≡ turn 16 make l m 0 p
-unfolding firstTurns covers blockCount fold
-turns-sixteen make l m p = refl
 
 -- of 4 by 4, by the numbers of blocks
 pub by-one : (b : ℕ) → b ≡ covers 4 * b

@@ -28,7 +28,7 @@ use Rattle.head.specs.declared.Head.the-variants.{Legal}
 use Rattle.head.specs.declared.Head.the-variants as head-variants
 use Rattle.head.specs.Entry as head
 use Rattle.head.specs.Entry.{ReadsHead, headTests, longAt, sizeHolds, rowsHold}
-use Rattle.head.proofs.Heads.{sized-of, rows-of, head-told}
+use Rattle.head.proofs.Heads.{size-tells, rows-of, head-told}
 use Rattle.picture.specs.declared.Layout.{Layout}
 use Rattle.picture.specs.Order.{Sound}
 use Rattle.picture.specs.Plane.{planeLength}
@@ -57,12 +57,12 @@ module _ (l : Layout) (place : ℕ) (file plane : List ℕ) where
 
 -- ---- the head
 
-pub sound-of : (width height rows : ℕ) → sizeHolds width height ≡ true → rowsHold height rows ≡ true → Sound (inSlices width height rows)
-sound-of width height rows e h = let s = sized-of width height e in record { some = s .some; wide = s .wide; high = s .high; rows = rows-of height rows h .0 }
+pub sound-slices : (width height rows : ℕ) → sizeHolds width height ≡ true → rowsHold height rows ≡ true → Sound (inSlices width height rows)
+sound-slices width height rows e h = let s = size-tells width height e in record { some = s .some; wide = s .wide; high = s .high; rows = rows-of height rows h .0 }
 
 -- a picture has macroblocks
 pub macroblocks-some : (width height : ℕ) → sizeHolds width height ≡ true → 0 < width * height
-macroblocks-some width height e = let s = sized-of width height e in omega (arith, mul-le-mul-left 1 (s .some), mul-le-mul-left width (s .tall), s .some)
+macroblocks-some width height e = let s = size-tells width height e in omega (arith, mul-le-mul-left 1 (s .some), mul-le-mul-left width (s .tall), s .some)
 
 -- a head was read, and tells of this picture and of its own length
 pub record LegalHead (file : List ℕ) (l : Layout) (long : ℕ) : Type 0 where

@@ -25,7 +25,7 @@ use Rattle.lists.proofs.Tab.{length-tab}
 use Rattle.head.specs.Entry.{longAt, widthAt, heightAt, rowsAt}
 use Rattle.octets.specs.Sum.{summed}
 use Rattle.head.specs.Heads.{oldLength, oldHead, newLength, newHead, headOf, lengthBy}
-use Rattle.head.proofs.Heads.{sized-of}
+use Rattle.head.proofs.Heads.{size-tells}
 use Rattle.head.proofs.Back as head
 use Rattle.record.specs.Kinds.{inFours, lengthOf}
 use Rattle.picture.specs.declared.Layout.{Layout}
@@ -94,7 +94,7 @@ module _ (width height rows qp : ℕ) (p q file-p rebuilt-p file-q rebuilt-q : L
         let start = cleared (planeLength 16 l) in
         let x = outcome width height rows qp p file-p rebuilt-p used-p file-p′ rebuilt-p′ coded-p in
         let y = outcome width height rows qp q file-q rebuilt-q used-q file-q′ rebuilt-q′ coded-q in
-        let some = sized-of width height (x .size) .some in
+        let some = size-tells width height (x .size) .some in
         let long : length (cleared (planeLength 16 l)) ≡ planeLength 16 l = length-tab {A = ℕ} (planeLength 16 l) (λ k. 0) in (
           λ m h e.
               ap (λ (f : List ℕ). recordIn f (behindHead l) m) (x .filed) ∙ own-record-in l qp p start m h

@@ -42,7 +42,7 @@ use Rattle.record.specs.declared.Form.{Form}
 use Rattle.record.specs.declared.Walk.the-variants.{Whole}
 use Rattle.record.specs.declared.Kind.{Kind}
 use Rattle.record.specs.declared.Walk.{Walk}
-use Rattle.record.proofs.Forms.{fine}
+use Rattle.record.proofs.Forms.{form-fine}
 use Rattle.octets.proofs.Back.{number-behind, number-before, number-level, sum-own}
 use Rattle.octets.proofs.Levels.{length-levels}
 use Rattle.record.proofs.Marks.{front-known, longest-known, fours, wholes, chromas, length-there, luma-mark, chroma-mark, expected-second}
@@ -85,7 +85,7 @@ module _ (expected : Expected) (bytes : List ℕ) (own : Own expected bytes) whe
     pub form-own : formOf expected (bytes ++ rest) ≡ Fine (length bytes)
     form-own =
         let l = length-own in
-        fine expected (bytes ++ rest) (omega (arith, six-own, length-append bytes rest)) (rw mark-own (own .as-expected)) (omega (arith, l, length-append bytes rest))
+        form-fine expected (bytes ++ rest) (omega (arith, six-own, length-append bytes rest)) (rw mark-own (own .as-expected)) (omega (arith, l, length-append bytes rest))
         (number-before bytes rest 2 (omega (arith, six-own)) ∙ own .numbered) (rw first-own (own .sums))
         ∙ ap Fine l
 

@@ -1,5 +1,5 @@
 -- What the tests of a record's form come to.
---     cut-mark, mark-wrong, cut-rest, number-wrong, sum-wrong, fine      the six verdicts
+--     cut-mark, mark-wrong, cut-rest, number-wrong, sum-wrong, form-fine the six verdicts
 --     FineForm, passed-sound, fine-sound                                    what is known of a record whose form is fine
 --     late-room                                                          number and sum are tested only in a record that is all there
 --     formed-pass                                                        a form by its verdict
@@ -69,9 +69,9 @@ module _ (expected : Expected) (bytes : List ℕ) where
           sum-wrong e =
               simp (le-leb 2 (length bytes) two, marked, le-leb (lengthIn bytes) (length bytes) room, eq-eqb (numberIn bytes) (expected .number) own, e)
 
-          pub fine : sumHolds (firstIn bytes) ≡ true → formOf expected bytes ≡ Fine (lengthIn bytes)
+          pub form-fine : sumHolds (firstIn bytes) ≡ true → formOf expected bytes ≡ Fine (lengthIn bytes)
           unfolding formOf
-          fine e =
+          form-fine e =
               simp (le-leb 2 (length bytes) two, marked, le-leb (lengthIn bytes) (length bytes) room, eq-eqb (numberIn bytes) (expected .number) own, e)
 
   -- number and sum are tested only in a record that is all there

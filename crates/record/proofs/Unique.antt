@@ -8,8 +8,6 @@ use Rattle.unique.specs.Unique.{Unique}
 use Rattle.refusal.proofs.Same.{same-answer}
 use Rattle.record.proofs.inner.fours_length.Kinds as fours-length
 use Rattle.record.proofs.inner.fours_length.Reads as fours-length-reads
-use Rattle.record.proofs.inner.whole_length.Kinds as whole-length
-use Rattle.record.proofs.inner.whole_length.Reads as whole-length-reads
 use Rattle.record.proofs.inner.chroma_length.Kinds as chroma-length
 use Rattle.record.proofs.inner.chroma_length.Reads as chroma-length-reads
 use Rattle.record.proofs.inner.write_fours.Kinds as write-fours
@@ -48,20 +46,17 @@ use Rattle.record.proofs.inner.walked.Reads as walked-reads
 pub fours-length-unique : Unique 0 fours-length.ps fours-length.r fours-length-reads.Learnt (Unit {0}) (λ κs e. tt)
 fours-length-unique κs a x y e f p q = (p ∙ sym q, refl)
 
-pub whole-length-unique : Unique 0 whole-length.ps whole-length.r whole-length-reads.Learnt (Unit {0}) (λ κs e. tt)
-whole-length-unique κs a x y e f p q = (p ∙ sym q, refl)
-
 pub chroma-length-unique : Unique 0 chroma-length.ps chroma-length.r chroma-length-reads.Learnt (Unit {0}) (λ κs e. tt)
 chroma-length-unique κs a x y e f p q = (p ∙ sym q, refl)
 
 pub write-fours-unique : Unique 2 write-fours.ps write-fours.r write-fours-reads.Learnt (List ℕ) (λ κs e. now (e .1 .1 .1 .1 .0))
-write-fours-unique κs a x y e f p q = (refl, p ∙ sym q)
+write-fours-unique κs a x y e f p q = (p .0 ∙ sym (q .0), p .1 ∙ sym (q .1))
 
 pub write-whole-unique : Unique 2 write-whole.ps write-whole.r write-whole-reads.Learnt (List ℕ) (λ κs e. now (e .1 .1 .1 .1 .0))
-write-whole-unique κs a x y e f p q = (refl, p ∙ sym q)
+write-whole-unique κs a x y e f p q = (p .0 ∙ sym (q .0), p .1 ∙ sym (q .1))
 
 pub write-chroma-unique : Unique 2 write-chroma.ps write-chroma.r write-chroma-reads.Learnt (List ℕ) (λ κs e. now (e .1 .1 .1 .1 .1 .0))
-write-chroma-unique κs a x y e f p q = (refl, p ∙ sym q)
+write-chroma-unique κs a x y e f p q = (p .0 ∙ sym (q .0), p .1 ∙ sym (q .1))
 
 pub qp-unique : Unique 1 qp.ps qp.r qp-reads.Learnt (Unit {0}) (λ κs e. tt)
 qp-unique κs a x y e f p q = (p ∙ sym q, refl)

@@ -1,11 +1,12 @@
 // Macroblock records in lent parts, the form of a record, and the walk over records. Lengths are the caller's.
 ghost use mathlib.Core.List.{_∷_};
 ghost use mathlib.Core.Path.{_≡_};
-ghost use Prim.Native.Nat.{ℕ, _+_, _-_, _*_, _<_};
+ghost use Prim.Native.Nat.{ℕ, _+_, _-_, _*_, _<_, _≤_};
 ghost use lib.IntN.{pos};
 ghost use lib.ListN.{length, drop, getD};
 ghost use mir.Syntax.{w8, w16};
 ghost use mir.Val.{SFits};
+ghost use Rattle.lists.specs.Parts.{over};
 ghost use Rattle.refusal.specs.Number.{said};
 ghost use Rattle.record.specs.Faults.{formOf, walkOf, walkSaid};
 ghost use Rattle.record.specs.Kinds.{lengthOf, inFours, inWhole, inChroma, kindOf, recordLength, asExpected, expectedIn};
@@ -56,13 +57,6 @@ pub fn fours_length() -> usize
     length_of(FOURS)
 }
 
-// How long a macroblock's record of 16x16 is.
-pub fn whole_length() -> usize
-    ensures { λ r. ⌜ r ≡ lengthOf inWhole ⌝ }
-{
-    length_of(WHOLE)
-}
-
 // How long a chroma record is.
 pub fn chroma_length() -> usize
     ensures { λ r. ⌜ r ≡ lengthOf inChroma ⌝ }
@@ -99,35 +93,64 @@ fn write_record(kind: Kind, number: u16, next: u8, more: &[u8], levels: &[i32], 
     octets::inner::write_sum(part);
 }
 
-// A macroblock's record of 4x4 blocks.
-pub fn write_fours(number: u16, qp: u8, modes: [u8; 16], levels: &[i32], part: &mut [u8])
-    requires { ⌜ (length (now part) ≡ lengthOf inFours) × ((k : ℕ) → getD modes k 0 < 16) ⌝ }
+// The same over the front of what is lent; answers how many bytes that were.
+fn record_over(
+    kind: Kind,
+    number: u16,
+    next: u8,
+    more: &[u8],
+    levels: &[i32],
+    file: &mut [u8],
+) -> usize
+    requires { ⌜ (lengthOf kind < 65536) × (lengthOf kind ≤ length (now file)) × (5 + length (now more) ≡ kind .front) ⌝ }
+    requires { ⌜ (length (now levels) ≡ kind .levels) × ((k : ℕ) → SFits w16 (getD (now levels) k (pos 0))) ⌝ }
+    ensures { λ r. ⌜ r ≡ lengthOf kind ⌝ }
+    ensures { λ _. ⌜ now (file .exit) ≡ over (recordWith kind number (next ∷ now (more .entry)) (now (levels .entry))) (now (file .entry)) ⌝ }
+{
+    let long = length_of(kind);
+    write_record(kind, number, next, more, levels, &mut file[0..long]);
+    long
+}
+
+// A macroblock's record of 4x4 blocks, likewise.
+pub fn write_fours(number: u16, qp: u8, modes: [u8; 16], levels: &[i32], file: &mut [u8]) -> usize
+    requires { ⌜ (lengthOf inFours ≤ length (now file)) × ((k : ℕ) → getD modes k 0 < 16) ⌝ }
     requires { ⌜ (length (now levels) ≡ inFours .levels) × ((k : ℕ) → SFits w16 (getD (now levels) k (pos 0))) ⌝ }
-    ensures { λ _. ⌜ now (part .exit) ≡ recordOf number qp modes (now (levels .entry)) ⌝ }
+    ensures { λ r. ⌜ r ≡ lengthOf inFours ⌝ }
+    ensures { λ _. ⌜ now (file .exit) ≡ over (recordOf number qp modes (now (levels .entry))) (now (file .entry)) ⌝ }
 {
     let more = octets::inner::packed(modes);
-    write_record(FOURS, number, qp, &more, levels, part);
+    record_over(FOURS, number, qp, &more, levels, file)
 }
 
-// A macroblock's record of 16x16.
-pub fn write_whole(number: u16, qp: u8, mode: u8, levels: &[i32], part: &mut [u8])
-    requires { ⌜ length (now part) ≡ lengthOf inWhole ⌝ }
+// A macroblock's record of 16x16, likewise.
+pub fn write_whole(number: u16, qp: u8, mode: u8, levels: &[i32], file: &mut [u8]) -> usize
+    requires { ⌜ lengthOf inWhole ≤ length (now file) ⌝ }
     requires { ⌜ (length (now levels) ≡ inWhole .levels) × ((k : ℕ) → SFits w16 (getD (now levels) k (pos 0))) ⌝ }
-    ensures { λ _. ⌜ now (part .exit) ≡ recordWhole number qp mode (now (levels .entry)) ⌝ }
+    ensures { λ r. ⌜ r ≡ lengthOf inWhole ⌝ }
+    ensures { λ _. ⌜ now (file .exit) ≡ over (recordWhole number qp mode (now (levels .entry))) (now (file .entry)) ⌝ }
 {
     let more = [mode];
-    write_record(WHOLE, number, qp, &more, levels, part);
+    record_over(WHOLE, number, qp, &more, levels, file)
 }
 
-// A chroma record, with Cb's offset and Cr's.
-pub fn write_chroma(number: u16, cb: i32, cr: i32, mode: u8, levels: &[i32], part: &mut [u8])
-    requires { ⌜ (length (now part) ≡ lengthOf inChroma) × SFits w8 cb × SFits w8 cr ⌝ }
+// A chroma record, with Cb's offset and Cr's, likewise.
+pub fn write_chroma(
+    number: u16,
+    cb: i32,
+    cr: i32,
+    mode: u8,
+    levels: &[i32],
+    file: &mut [u8],
+) -> usize
+    requires { ⌜ (lengthOf inChroma ≤ length (now file)) × SFits w8 cb × SFits w8 cr ⌝ }
     requires { ⌜ (length (now levels) ≡ inChroma .levels) × ((k : ℕ) → SFits w16 (getD (now levels) k (pos 0))) ⌝ }
-    ensures { λ _. ⌜ now (part .exit) ≡ recordChroma number cb cr mode (now (levels .entry)) ⌝ }
+    ensures { λ r. ⌜ r ≡ lengthOf inChroma ⌝ }
+    ensures { λ _. ⌜ now (file .exit) ≡ over (recordChroma number cb cr mode (now (levels .entry))) (now (file .entry)) ⌝ }
 {
     let next = octets::inner::signed_byte(cb);
     let more = [octets::inner::signed_byte(cr), mode];
-    write_record(CHROMA, number, next, &more, levels, part);
+    record_over(CHROMA, number, next, &more, levels, file)
 }
 
 // ---- reading
@@ -184,7 +207,7 @@ pub fn block_levels(part: &[u8], block: usize) -> [i32; 16]
 }
 
 // All levels of a record of a kind.
-fn all_levels(kind: Kind, part: &[u8], out: &mut [i32])
+fn kind_levels(kind: Kind, part: &[u8], out: &mut [i32])
     requires { ⌜ (length (now part) ≡ lengthOf kind) × (length (now out) ≡ kind .levels) ⌝ }
     ensures { λ _. ⌜ now (out .exit) ≡ allLevelsIn kind (now (part .entry)) ⌝ }
 {
@@ -199,7 +222,7 @@ pub fn whole_levels(part: &[u8], out: &mut [i32])
     requires { ⌜ (length (now part) ≡ lengthOf inWhole) × (length (now out) ≡ inWhole .levels) ⌝ }
     ensures { λ _. ⌜ now (out .exit) ≡ allLevelsIn inWhole (now (part .entry)) ⌝ }
 {
-    all_levels(WHOLE, part, out);
+    kind_levels(WHOLE, part, out);
 }
 
 // All levels of a chroma record: those of Cb, then those of Cr.
@@ -207,7 +230,7 @@ pub fn both_levels(part: &[u8], out: &mut [i32])
     requires { ⌜ (length (now part) ≡ lengthOf inChroma) × (length (now out) ≡ inChroma .levels) ⌝ }
     ensures { λ _. ⌜ now (out .exit) ≡ allLevelsIn inChroma (now (part .entry)) ⌝ }
 {
-    all_levels(CHROMA, part, out);
+    kind_levels(CHROMA, part, out);
 }
 
 // Cb's offset, of a chroma record.
@@ -244,7 +267,7 @@ fn record_length(mark: u16) -> usize
         return fours_length();
     }
     if mark == WHOLE.mark {
-        return whole_length();
+        return length_of(WHOLE);
     }
     if mark == CHROMA.mark {
         return chroma_length();

@@ -99,7 +99,7 @@ fn level(y: i32, mf: u32, f: u32, q: u32) -> i32
 
 // Each number of a slice made its level, by the multiplier of its place.
 pub fn level_all(numbers: &mut [i32], mf: &[u32], f: u32, q: u32)
-    requires { ⌜ (Each 65280 (now numbers)) × (length (now mf) ≡ length (now numbers)) × ((k : ℕ) → k < length (now numbers) → getD (now mf) k 0 ≤ 13107) × (f ≤ 11184810) × (q ≤ 25) ⌝ }
+    requires { ⌜ (Each 65280 (now numbers)) × (length (now numbers) ≤ length (now mf)) × ((k : ℕ) → k < length (now numbers) → getD (now mf) k 0 ≤ 13107) × (f ≤ 11184810) × (q ≤ 25) ⌝ }
     ensures { λ _. ⌜ now (numbers .exit) ≡ tab (length (now (numbers .entry))) (λ k. levelBy (getD (now (mf .entry)) k 0) f (2 ^ q) (getD (now (numbers .entry)) k (pos 0))) ⌝ }
 {
     let mut k = 0;
@@ -190,7 +190,7 @@ fn scaled(number: i32, scale: u32, round: u32, shift: u32) -> i32
 
 // Each number of a slice rescaled, by the scale of its place.
 pub fn scale_all(numbers: &mut [i32], scale: &[u32], round: u32, shift: u32)
-    requires { ⌜ (length (now scale) ≡ length (now numbers)) × ((k : ℕ) → k < length (now numbers) → Scalable (getD (now numbers) k (pos 0)) (getD (now scale) k 0)) × (round ≤ 8) × (shift ≤ 4) ⌝ }
+    requires { ⌜ (length (now numbers) ≤ length (now scale)) × ((k : ℕ) → k < length (now numbers) → Scalable (getD (now numbers) k (pos 0)) (getD (now scale) k 0)) × (round ≤ 8) × (shift ≤ 4) ⌝ }
     ensures { λ _. ⌜ now (numbers .exit) ≡ tab (length (now (numbers .entry))) (λ k. shrZ (getD (now (numbers .entry)) k (pos 0) *ℤ pos (getD (now (scale .entry)) k 0) +ℤ pos round) (2 ^ shift)) ⌝ }
 {
     let mut k = 0;

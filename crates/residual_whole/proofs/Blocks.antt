@@ -1,19 +1,19 @@
 -- A macroblock's s by s samples block by block, for either side.
 --     by-side, every-side, every-block               what holds for 16 and 8; a test that passes for both, and for all their blocks
+--     side-count                                     as many blocks as a DC path has values
 --     Square, square                                 what is known of a side
 --     room                                           each block lies among the samples
 --     Putting: putting-none, putting-more, putting-done     a loop over b that puts `make b` into block b
 --     blocks-bytes, part-of-blocks                   an area by its blocks: bytes; block b is `make b`
 --     place-lt, block-of-place, stored-by-place      places in raster order; numbers stored by the places of their blocks
 -- Assumes nothing.
-use mathlib.Core.Path.{_≡_, refl, sym, ap, subst, _∙_}
-use mathlib.Core.Bool.{Bool, true, false, _&&_, _||_}
+use mathlib.Core.Path.{_≡_, sym, ap, _∙_}
+use mathlib.Core.Bool.{Bool, _&&_}
 use mathlib.Core.List.{List}
 use mathlib.Core.Logic.{⊎-elim}
 use Prim.Native.Nat.{ℕ, _+_, _*_, _/_, _%_, _<_, _≤_, zero-le}
 use native.Mathlib.Nat.{not-suc-le-zero, eq-or-lt-of-le, div-add-mod', mul-le-mul-right}
 use native.Mathlib.Omega.{arith}
-use borrow.Author.Tests.{eqb-true}
 use lib.Dec.{T, eqb, leb, ltb, eqb→eq, leb→le, ltb→lt}
 use lib.ListN.{length, getD}
 use Rattle.lists.specs.Bytes.{Bytes}
@@ -25,6 +25,8 @@ use Rattle.lists.proofs.Bytes.{bytes-grid}
 use Rattle.lists.proofs.Every.{every-at, every-two, both-left, both-right}
 use Rattle.lists.proofs.Stores.{length-stores, getD-stores-at}
 use Rattle.lists.proofs.Tab.{getD-grid, tab-of, row-below, column-below}
+use Rattle.dc.specs.Dc.{DcCount}
+use Rattle.dc.proofs.Levels.{either-of}
 use Rattle.picture.specs.Order.{blockTable, tablePlace, blockIn, columnIn, rowIn}
 use Rattle.picture.specs.Plane.{blockAt}
 use Rattle.picture.proofs.Blocks.{inner-facts, table-permutes}
@@ -34,12 +36,11 @@ use Rattle.residual_whole.specs.Area.{Sided, blocksOf, partIn, withPart,
 -- ---- the two sides
 
 pub by-side : (P : ℕ → Type 0) → P 16 → P 8 → (s : ℕ) → Sided s → P s
-by-side P p q s side = by-case (eqb s 16) (eqb s 8) refl refl side
-  where
-    by-case : (a b : Bool) → eqb s 16 ≡ a → eqb s 8 ≡ b → T (a || b) → P s
-    by-case true b ea eb h = subst P (sym (eqb-true s 16 ea)) p
-    by-case false true ea eb h = subst P (sym (eqb-true s 8 eb)) q
-    by-case false false ea eb h = absurd h
+by-side P p q s side = either-of P 16 8 p q s side
+
+-- its blocks are as many as a DC path has values
+pub side-count : (s : ℕ) → Sided s → DcCount (blocksOf s)
+side-count s side = by-side (λ n. DcCount (blocksOf n)) tt tt s side
 
 pub every-side : (p : ℕ → Bool) → T (p 16 && p 8) → (s : ℕ) → Sided s → T (p s)
 every-side p t s side = by-side (λ n. T (p n)) (both-left (p 16) (p 8) t) (both-right (p 16) (p 8) t) s side

@@ -1,19 +1,16 @@
 -- What the coder computes of a macroblock is what the definitions say, for either side.
 --     residual-within, dc-within                 of bytes: residuals within 255, DC coefficients within 4080
 --     length-dc, dc-each, length-ac              a DC coefficient for each block, fifteen AC levels
---     dc-levels-length, dc-levels-each           the DC levels: as many, within 6528
 --     Coding: coding-none, coding-more, coding-dc, coding-ac     the loop over the blocks
 --     coded-whole                                and the DC levels before them
 -- Assumes nothing.
 use mathlib.Core.Path.{_≡_, sym, ap, subst, _∙_}
-use mathlib.Core.Bool.{Bool, true, false, cond}
 use mathlib.Core.List.{List, _++_, append-assoc, append-nil}
 use Prim.Native.Nat.{ℕ, _+_, _-_, _*_, _<_, _≤_}
 use native.Mathlib.Nat.{not-suc-le-zero}
 use native.Mathlib.Omega.{arith}
 use borrow.Author.Count.{below-more}
 use borrow.Rule.Slice.PartMut.{putMid}
-use lib.Dec.{eqb}
 use lib.IntN.{ℤ, pos}
 use lib.ListN.{length, getD, set, take, drop, length-drop}
 use lib.Seq.{drop-at, length-take-le}
@@ -23,20 +20,19 @@ use Rattle.lists.proofs.Parts.{Growing, growing-part, growing-done, parts-more,
 use Rattle.lists.proofs.Tab.{length-tab}
 use Rattle.lists.proofs.Stores.{Storing, storing-none, storing-more, storing-done}
 use Rattle.whole.specs.Bounds.{Within, Each}
-use Rattle.whole.proofs.Lists.{each-tab, each-less}
+use Rattle.whole.proofs.Lists.{each-tab}
 use Rattle.transform.specs.Forward.{forward}
 use Rattle.transform.proofs.Bounds.{forward-within}
 use Rattle.residual.specs.Levels.{quantized}
 use Rattle.residual.proofs.Order.{length-zigzag}
-use Rattle.dc.specs.Dc.{lumaLevels, chromaLevels}
 use Rattle.dc.specs.Path.{acOf}
-use Rattle.dc.proofs.Levels.{luma-levels-length, luma-levels-each, chroma-levels-length, chroma-levels-each}
+use Rattle.dc.proofs.Levels.{dc-levels-length}
 use Rattle.block.proofs.Laws.{residual-small}
 use Rattle.picture.specs.Order.{columnIn, rowIn}
 use Rattle.picture.proofs.Bytes.{block-bytes}
 use Rattle.residual_whole.specs.Area.{Sided, blocksOf, rasterPlace, rasterBlock}
 use Rattle.residual_whole.specs.Coded.{residualIn, wholeDc, dcLevels, wholeLevels}
-use Rattle.residual_whole.proofs.Blocks.{square, by-side, block-of-place, stored-by-place}
+use Rattle.residual_whole.proofs.Blocks.{square, side-count, block-of-place, stored-by-place}
 
 module _ (s : ℕ) (samples prediction : List ℕ) where
   -- the DC coefficient and the AC levels of block b
@@ -69,21 +65,6 @@ module _ (s : ℕ) (samples prediction : List ℕ) where
 
 pub length-ac : (qp : ℕ) (x : List ℤ) → length (acOf qp x) ≡ 15
 length-ac qp x = simp length-drop (omega (arith, length-zigzag (quantized qp x)))
-
--- ---- the DC levels of either side
-
-pub dc-levels-length : (s : ℕ) → Sided s → (qp : ℕ) (dc : List ℤ) → length (dcLevels s qp dc) ≡ blocksOf s
-unfolding dcLevels
-dc-levels-length s side qp dc =
-    by-side (λ n. length (dcLevels n qp dc) ≡ blocksOf n) (luma-levels-length qp dc) (chroma-levels-length qp dc) s side
-
-pub dc-levels-each : (s qp : ℕ) (dc : List ℤ) → Each 4080 dc → Each 6528 (dcLevels s qp dc)
-unfolding dcLevels
-dc-levels-each s qp dc h = by-case (eqb s 16)
-  where
-    by-case : (t : Bool) → Each 6528 (cond t (lumaLevels qp dc) (chromaLevels qp dc))
-    by-case true = luma-levels-each qp dc h
-    by-case false = each-less 3264 6528 (chromaLevels qp dc) (chroma-levels-each qp dc h) tt
 
 -- ---- the loop over the blocks
 
@@ -146,13 +127,13 @@ module _ (s qp : ℕ) (samples prediction : List ℕ) (start zeros : List ℤ) w
 
 -- and the DC levels w of the coefficients have been stored in front
 pub coded-whole : (s : ℕ) → Sided s → (qp : ℕ) (samples prediction : List ℕ) (start : List ℤ) {levels coefficients w : List ℤ} (n : ℕ) → n ≡ blocksOf s → length start ≡ s * s
-    → coefficients ≡ wholeDc s samples prediction → levels ≡ take (blocksOf s) start ++ parts (blocksOf s) (acBeside s samples prediction qp) → w ≡ dcLevels s qp coefficients
+    → coefficients ≡ wholeDc s samples prediction → levels ≡ take (blocksOf s) start ++ parts (blocksOf s) (acBeside s samples prediction qp) → w ≡ dcLevels (blocksOf s) qp coefficients
     → putMid 0 (n - 0) levels w ≡ wholeLevels s qp samples prediction
 unfolding wholeLevels
 coded-whole s side qp samples prediction start {levels} {coefficients} {w} n is-n long is-c is-l is-w =
-    let m = ap length is-w ∙ dc-levels-length s side qp coefficients in
+    let m = ap length is-w ∙ dc-levels-length (blocksOf s) (side-count s side) qp coefficients in
     let back : drop (blocksOf s) levels ≡ parts (blocksOf s) (acBeside s samples prediction qp) =
     ap (drop (blocksOf s)) is-l ∙ drop-at (take (blocksOf s) start) (parts (blocksOf s) (acBeside s samples prediction qp)) (blocksOf s) (length-take-le (blocksOf s) start (omega (arith, square s side .levels))) in
     part-home levels w 0 n (omega arith) (omega (arith, m))
     ∙ ap (λ (k : ℕ). w ++ drop k levels) (let z : 0 + length w ≡ blocksOf s = omega (arith, m) in z)
-    ∙ (λ i. (is-w ∙ ap (dcLevels s qp) is-c) i ++ back i)
+    ∙ (λ i. (is-w ∙ ap (dcLevels (blocksOf s) qp) is-c) i ++ back i)

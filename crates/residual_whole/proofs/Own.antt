@@ -33,20 +33,21 @@ use Rattle.residual.proofs.Entry.{wide-none}
 use Rattle.residual.proofs.Own.{own-levels-in-range, ac-fit}
 use Rattle.dc.specs.Dc.{lumaLevels, lumaValues, chromaLevels, chromaValues}
 use Rattle.dc.specs.Path.{acOf}
+use Rattle.dc.proofs.Levels.{dc-levels-length, dc-levels-each}
+use Rattle.dc.proofs.Values.{dc-values-length}
 use Rattle.dc.proofs.Own.{own-dc-in-range, own-chroma-dc-in-range}
 use Rattle.residual_whole.specs.Area.{Sided, blocksOf}
 use Rattle.residual_whole.specs.Coded.{residualIn, wholeDc, dcLevels, wholeLevels}
 use Rattle.residual_whole.specs.Rebuilt.{acIn, dcValues, valuesIn, dcFits, acNumbers, acFits, firstAc}
-use Rattle.residual_whole.proofs.Blocks.{square, by-side}
-use Rattle.residual_whole.proofs.Levels.{residual-within, dc-within, length-dc, length-ac, dc-levels-length, dc-levels-each}
-use Rattle.residual_whole.proofs.Samples.{dc-values-length}
+use Rattle.residual_whole.proofs.Blocks.{square, by-side, side-count}
+use Rattle.residual_whole.proofs.Levels.{residual-within, dc-within, length-dc, length-ac}
 
 -- own DC levels come back in range: luma's values within 25088, chroma's within 19968
-pub own-dc-values : (s : ℕ) → Sided s → (qp : ℕ) → qp ≤ highest → (dc : List ℤ) → length dc ≡ blocksOf s → Each 4080 dc → Each 32767 (dcValues s qp (dcLevels s qp dc))
+pub own-dc-values : (s : ℕ) → Sided s → (qp : ℕ) → qp ≤ highest → (dc : List ℤ) → length dc ≡ blocksOf s → Each 4080 dc → Each 32767 (dcValues (blocksOf s) qp (dcLevels (blocksOf s) qp dc))
 unfolding dcValues dcLevels
 own-dc-values s side qp legal dc long small =
     by-side
-    (λ n. length dc ≡ blocksOf n → Each 32767 (dcValues n qp (dcLevels n qp dc)))
+    (λ n. length dc ≡ blocksOf n → Each 32767 (dcValues (blocksOf n) qp (dcLevels (blocksOf n) qp dc)))
     (λ e. each-less 25088 32767 (lumaValues qp (lumaLevels qp dc)) (own-dc-in-range qp legal dc e small) tt)
     (λ e. each-less 19968 32767 (chromaValues qp (chromaLevels qp dc)) (own-chroma-dc-in-range qp legal dc e small) tt)
     s side long
@@ -58,13 +59,13 @@ module _ (s : ℕ) (side : Sided s) (qp : ℕ) (samples prediction : List ℕ) w
   own = wholeLevels s qp samples prediction
 
   abbrev dcOwn : List ℤ
-  dcOwn = dcLevels s qp (wholeDc s samples prediction)
+  dcOwn = dcLevels (blocksOf s) qp (wholeDc s samples prediction)
 
   abbrev acOwn : ℕ → List ℤ
   acOwn b = acOf qp (residualIn s samples prediction b)
 
   length-dc-own : length dcOwn ≡ blocksOf s
-  length-dc-own = dc-levels-length s side qp (wholeDc s samples prediction)
+  length-dc-own = dc-levels-length (blocksOf s) (side-count s side) qp (wholeDc s samples prediction)
 
   pub own-dc : take (blocksOf s) own ≡ dcOwn
   unfolding wholeLevels
@@ -94,7 +95,7 @@ module _ (s : ℕ) (side : Sided s) (qp : ℕ) (samples prediction : List ℕ) w
     unfolding wholeLevels
     own-small =
         each-append 6528 dcOwn (parts (blocksOf s) acOwn)
-        (dc-levels-each s qp (wholeDc s samples prediction) (dc-within s samples prediction side bytes near))
+        (dc-levels-each (blocksOf s) qp (wholeDc s samples prediction) (dc-within s samples prediction side bytes near))
         (each-parts 6528 (blocksOf s) acOwn
         (λ b h.
         let l = levelsOf qp (residualIn s samples prediction b) in
@@ -104,9 +105,9 @@ module _ (s : ℕ) (side : Sided s) (qp : ℕ) (samples prediction : List ℕ) w
     unfolding dcFits valuesIn
     own-dc-fine =
         eq-eqb (firstWide (valuesIn s qp own)) (blocksOf s)
-        (ap (λ (l : List ℤ). firstWide (dcValues s qp l)) own-dc
-        ∙ wide-none (dcValues s qp dcOwn) (own-dc-values s side qp legal (wholeDc s samples prediction) (length-dc s samples prediction) (dc-within s samples prediction side bytes near))
-        ∙ dc-values-length s side qp dcOwn)
+        (ap (λ (l : List ℤ). firstWide (dcValues (blocksOf s) qp l)) own-dc
+        ∙ wide-none (dcValues (blocksOf s) qp dcOwn) (own-dc-values s side qp legal (wholeDc s samples prediction) (length-dc s samples prediction) (dc-within s samples prediction side bytes near))
+        ∙ dc-values-length (blocksOf s) (side-count s side) qp dcOwn)
 
     own-ac-fine : firstAc s qp own ≡ blocksOf s
     unfolding firstAc acFits acNumbers inside

@@ -2,8 +2,8 @@
 --     each-first                            bounds of a list whose first number is another
 --     ac-each, places-small                 a bound of the levels is one of a block's AC levels behind a 0, also in raster places
 --     ac-step, step-some                    where the code finds an AC level
---     dc-values-length, length-values       a DC value for each block
---     values-fit, numbers-fit               what the two tests of RANGE say of the numbers
+--     length-values                         a DC value for each block
+--     values-fit, ac-numbers-fit             what the two tests of RANGE say of the numbers
 --     whole-bytes                           what is rebuilt: bytes
 -- Assumes nothing.
 use mathlib.Core.Path.{_≡_, sym, ap, _∙_}
@@ -30,12 +30,11 @@ use Rattle.residual.specs.Rebuild.{rescaledOf}
 use Rattle.residual.specs.Rescale.{rescaled}
 use Rattle.residual.proofs.Entry.{wide-each, range-each}
 use Rattle.residual.proofs.Order.{places-each}
-use Rattle.dc.specs.Dc.{lumaValues, lumaScaled}
-use Rattle.dc.proofs.Values.{chroma-values-length}
+use Rattle.dc.proofs.Values.{dc-values-length}
 use Rattle.block.proofs.Laws.{bytes-samples}
 use Rattle.residual_whole.specs.Area.{Sided, blocksOf}
-use Rattle.residual_whole.specs.Rebuilt.{acIn, dcValues, valuesIn, blockSamples, wholeSamples, dcFits, acNumbers, acFits, firstAc}
-use Rattle.residual_whole.proofs.Blocks.{by-side, blocks-bytes}
+use Rattle.residual_whole.specs.Rebuilt.{acIn, valuesIn, blockSamples, wholeSamples, dcFits, acNumbers, acFits, firstAc}
+use Rattle.residual_whole.proofs.Blocks.{side-count, blocks-bytes}
 
 pub each-first : (B : ℕ) (l : List ℤ) (y z : ℤ) → Each B (set l 0 y) → Within B z → Each B (set l 0 z)
 each-first B [] y z h w = tt
@@ -62,15 +61,10 @@ step-some place some h = ltb→lt _ _ (either _ _ (every-at 16 (λ i. eqb i 0 ||
 
 -- ---- RANGE
 
-pub dc-values-length : (s : ℕ) → Sided s → (qp : ℕ) (dc : List ℤ) → length (dcValues s qp dc) ≡ blocksOf s
-unfolding dcValues lumaValues lumaScaled
-dc-values-length s side qp dc =
-    by-side (λ n. length (dcValues n qp dc) ≡ blocksOf n) (length-tab 16 _) (chroma-values-length qp dc) s side
-
 module _ (s : ℕ) (side : Sided s) (qp : ℕ) (levels : List ℤ) where
   pub length-values : length (valuesIn s qp levels) ≡ blocksOf s
   unfolding valuesIn
-  length-values = dc-values-length s side qp (take (blocksOf s) levels)
+  length-values = dc-values-length (blocksOf s) (side-count s side) qp (take (blocksOf s) levels)
 
   pub values-fit : dcFits s qp levels ≡ true → Each 32768 (valuesIn s qp levels)
   unfolding dcFits
@@ -81,9 +75,9 @@ module _ (s : ℕ) (side : Sided s) (qp : ℕ) (levels : List ℤ) where
     unfolding acNumbers rescaled
     length-numbers = length-set (rescaledOf qp (pos 0 ∷ acIn s levels b)) 0 (pos 0) ∙ length-tab 16 _
 
-    pub numbers-fit : firstAc s qp levels ≡ blocksOf s → b < blocksOf s → Each 32768 (acNumbers s qp levels b)
+    pub ac-numbers-fit : firstAc s qp levels ≡ blocksOf s → b < blocksOf s → Each 32768 (acNumbers s qp levels b)
     unfolding firstAc acFits
-    numbers-fit e h =
+    ac-numbers-fit e h =
         let t = not-false (acFits s qp levels b) (first-before (λ b. not (acFits s qp levels b)) (blocksOf s) b (omega (arith, e))) in
         range-each (acNumbers s qp levels b) length-numbers (omega (arith, eqb-true (firstWide (inZigzag (acNumbers s qp levels b))) 16 t))
 

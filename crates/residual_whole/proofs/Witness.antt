@@ -35,7 +35,7 @@ use Rattle.picture.specs.Order.{blockTable, blockIn, tablePlace, columnIn, rowI
 use Rattle.picture.specs.Plane.{blockAt}
 use Rattle.residual_whole.specs.Area.{rasterPlace, rasterBlock}
 use Rattle.residual_whole.specs.Coded.{residualIn, wholeDc, dcLevels, wholeLevels}
-use Rattle.residual_whole.specs.Rebuilt.{acIn, dcValues, valuesIn, valueOf, blockSamples, dcFits, acNumbers, acFits, firstAc}
+use Rattle.residual_whole.specs.Rebuilt.{acIn, dcValues, valuesIn, dcValueOf, blockSamples, dcFits, acNumbers, acFits, firstAc}
 
 -- each sample is the number of its block; all are 0; all but one are 0
 abbrev numbered : List ℕ
@@ -64,12 +64,12 @@ ac-by-number = (refl, refl)
 abbrev leaning : List ℤ
 leaning = pos 0 ∷ pos 10 ∷ replicate 254 (pos 0)
 
-pub value-by-place : (valueOf 16 28 leaning 2 ≡ pos 640) × (valueOf 16 28 leaning 4 ≡ negsuc 639)
-unfolding valueOf rasterPlace columnIn rowIn valuesIn dcValues tablePlace blockTable first grid tab inPlaces inZigzag scaledBy lumaValues lumaScaled hadamard
+pub value-by-place : (dcValueOf 16 28 leaning 2 ≡ pos 640) × (dcValueOf 16 28 leaning 4 ≡ negsuc 639)
+unfolding dcValueOf rasterPlace columnIn rowIn valuesIn dcValues tablePlace blockTable first grid tab inPlaces inZigzag scaledBy lumaValues lumaScaled hadamard
 value-by-place = (refl, refl)
 
-pub dc-in-zigzag : (valueOf 16 28 (set (replicate 256 (pos 0)) 2 (pos 10)) 4 ≡ pos 640) × (valueOf 16 28 (set (replicate 256 (pos 0)) 2 (pos 10)) 8 ≡ negsuc 639)
-unfolding valueOf rasterPlace columnIn rowIn valuesIn dcValues tablePlace blockTable first grid tab inPlaces inZigzag scaledBy lumaValues lumaScaled hadamard
+pub dc-in-zigzag : (dcValueOf 16 28 (set (replicate 256 (pos 0)) 2 (pos 10)) 4 ≡ pos 640) × (dcValueOf 16 28 (set (replicate 256 (pos 0)) 2 (pos 10)) 8 ≡ negsuc 639)
+unfolding dcValueOf rasterPlace columnIn rowIn valuesIn dcValues tablePlace blockTable first grid tab inPlaces inZigzag scaledBy lumaValues lumaScaled hadamard
 dc-in-zigzag = (refl, refl)
 
 -- document 01's measured piece, as a macroblock
@@ -87,7 +87,7 @@ unfolding wholeLevels dcLevels parts wholeDc rasterBlock residualIn residualOf b
 flat = refl
 
 pub flat-back : (valuesIn 16 28 measured ≡ replicate 16 (pos 640)) × (blockSamples 16 28 low measured 5 ≡ replicate 16 110)
-unfolding blockSamples valueOf rasterPlace valuesIn dcValues inZigzag acIn blockAt columnIn rowIn tablePlace blockTable first grid tab inPlaces scaledBy rescaled inverse added rebuiltSamples clip lumaValues lumaScaled hadamard
+unfolding blockSamples dcValueOf rasterPlace valuesIn dcValues inZigzag acIn blockAt columnIn rowIn tablePlace blockTable first grid tab inPlaces scaledBy rescaled inverse added rebuiltSamples clip lumaValues lumaScaled hadamard
 flat-back = (refl, refl)
 
 -- 16 + 15 * 3 + 4: the fifth AC level of block 3
@@ -111,8 +111,8 @@ abbrev chromaLeaning : List ℤ
 chromaLeaning = pos 0 ∷ pos 10 ∷ replicate 62 (pos 0)
 
 pub chroma-by-place : (wholeDc 8 chromaNumbered (replicate 64 0) ≡ pos 0 ∷ pos 16 ∷ pos 32 ∷ pos 48 ∷ [])
-    × (valueOf 8 28 chromaLeaning 1 ≡ negsuc 1279) × (valueOf 8 28 chromaLeaning 2 ≡ pos 1280)
-unfolding wholeDc rasterBlock residualIn residualOf blockAt columnIn rowIn tablePlace blockIn blockTable first grid tab forward valueOf rasterPlace valuesIn dcValues chromaValues chromaScaled hadamard
+    × (dcValueOf 8 28 chromaLeaning 1 ≡ negsuc 1279) × (dcValueOf 8 28 chromaLeaning 2 ≡ pos 1280)
+unfolding wholeDc rasterBlock residualIn residualOf blockAt columnIn rowIn tablePlace blockIn blockTable first grid tab forward dcValueOf rasterPlace valuesIn dcValues chromaValues chromaScaled hadamard
 chroma-by-place = (refl, refl, refl)
 
 abbrev chromaMeasured : List ℤ
@@ -120,7 +120,7 @@ chromaMeasured = pos 5 ∷ replicate 63 (pos 0)
 
 pub chroma-flat : (wholeLevels 8 28 (replicate 64 110) (replicate 64 100) ≡ chromaMeasured)
     × (valuesIn 8 28 chromaMeasured ≡ replicate 4 (pos 640)) × (blockSamples 8 28 (replicate 64 100) chromaMeasured 3 ≡ replicate 16 110)
-unfolding wholeLevels dcLevels parts wholeDc rasterBlock residualIn residualOf blockAt columnIn rowIn tablePlace blockIn blockTable first grid tab forward quantized inZigzag levelBy chromaLevels quantizedDc hadamard blockSamples valueOf rasterPlace valuesIn dcValues acIn inPlaces scaledBy rescaled inverse added rebuiltSamples clip chromaValues chromaScaled
+unfolding wholeLevels dcLevels parts wholeDc rasterBlock residualIn residualOf blockAt columnIn rowIn tablePlace blockIn blockTable first grid tab forward quantized inZigzag levelBy chromaLevels quantizedDc hadamard blockSamples dcValueOf rasterPlace valuesIn dcValues acIn inPlaces scaledBy rescaled inverse added rebuiltSamples clip chromaValues chromaScaled
 chroma-flat = (refl, refl, refl)
 
 -- 4 + 15 * 3 + 4: the fifth AC level of block 3

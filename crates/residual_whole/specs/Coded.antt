@@ -1,13 +1,13 @@
 -- A macroblock predicted whole, from samples to levels: "with the luma DC path" (02, Req 01), or chroma's, "the DC path, and AC blocks"
 -- (02, Req 05; 01, "Transform, quantizer, rescaling"). Assumes nothing.
-use mathlib.Core.Bool.{cond}
 use mathlib.Core.List.{List, _++_}
 use Prim.Native.Nat.{ℕ}
-use lib.Dec.{eqb}
 use lib.IntN.{ℤ}
 use Rattle.lists.specs.Parts.{parts}
 use Rattle.block.specs.Block.{residualOf}
-use Rattle.dc.specs.Dc.{dcOf, lumaLevels, chromaLevels}
+use Rattle.dc.specs.Dc.{dcOf}
+-- levels by the DC path of the count, and so of the side
+unfoldable pub use Rattle.dc.specs.Dc.{dcLevels}
 use Rattle.dc.specs.Path.{acOf}
 use Rattle.residual_whole.specs.Area.{blocksOf, partIn, rasterBlock}
 
@@ -19,10 +19,6 @@ residualIn s samples prediction b = residualOf (partIn s b samples) (partIn s b 
 unfoldable pub wholeDc : (s : ℕ) → (samples prediction : List ℕ) → List ℤ
 wholeDc s samples prediction = dcOf (blocksOf s) (λ place. residualIn s samples prediction (rasterBlock s place))
 
--- their levels by the DC path of the side
-unfoldable pub dcLevels : (s qp : ℕ) → List ℤ → List ℤ
-dcLevels s qp dc = cond (eqb s 16) (lumaLevels qp dc) (chromaLevels qp dc)
-
 -- "16 DC levels, 16 times 15 AC levels"; "64 levels .. (4 DC, then 4 times 15 AC)"
 unfoldable pub wholeLevels : (s qp : ℕ) → (samples prediction : List ℕ) → List ℤ
-wholeLevels s qp samples prediction = dcLevels s qp (wholeDc s samples prediction) ++ parts (blocksOf s) (λ b. acOf qp (residualIn s samples prediction b))
+wholeLevels s qp samples prediction = dcLevels (blocksOf s) qp (wholeDc s samples prediction) ++ parts (blocksOf s) (λ b. acOf qp (residualIn s samples prediction b))

@@ -10,7 +10,7 @@ ghost use Rattle.quantizer.specs.Range.{highest};
 ghost use Rattle.transform.specs.Forward.{forward};
 ghost use Rattle.dc.specs.Path.{acOf};
 ghost use Rattle.residual_whole.specs.Area.{Sided, blocksOf};
-ghost use Rattle.residual_whole.specs.Coded.{residualIn, wholeDc};
+ghost use Rattle.residual_whole.specs.Coded.{residualIn, wholeDc, wholeLevels};
 use crate::area;
 use quantizer::Quantizer;
 
@@ -23,7 +23,7 @@ fn behind_first(l: &[i32], out: &mut [i32])
 }
 
 // The AC levels of block b; answers its DC coefficient.
-fn block_levels(
+fn block_to_levels(
     s: usize,
     quantizer: Quantizer,
     prediction: &[u8],
@@ -44,7 +44,7 @@ fn block_levels(
 }
 
 // The AC levels of all blocks, behind the room for the DC levels, and the blocks' DC coefficients in raster order.
-pub(crate) fn all_levels(
+fn blocks_to_levels(
     s: usize,
     quantizer: Quantizer,
     prediction: &[u8],
@@ -62,7 +62,7 @@ pub(crate) fn all_levels(
         let at = count + 15 * b;
         let end = at + 15;
         let place = area::place(s, b);
-        coefficients[place] = block_levels(
+        coefficients[place] = block_to_levels(
             s,
             quantizer,
             prediction,
@@ -71,4 +71,23 @@ pub(crate) fn all_levels(
             &mut levels[at..end],
         );
     }
+}
+
+// The levels of a macroblock: the DC levels, then the AC levels of its blocks. `coefficients` is room for the DC coefficients.
+pub(crate) fn macroblock_to_levels(
+    s: usize,
+    quantizer: Quantizer,
+    prediction: &[u8],
+    samples: &[u8],
+    coefficients: &mut [i32],
+    levels: &mut [i32],
+)
+    requires { ⌜ (Sided s) × (quantizer .qp ≤ highest) × (length (now prediction) ≡ s * s) × (length (now samples) ≡ s * s) ⌝ }
+    requires { ⌜ (length (now coefficients) ≡ blocksOf s) × (length (now levels) ≡ s * s) ⌝ }
+    ensures { λ _. ⌜ now (levels .exit) ≡ wholeLevels s (quantizer .qp) (now (samples .entry)) (now (prediction .entry)) ⌝ }
+{
+    blocks_to_levels(s, quantizer, prediction, samples, coefficients, levels);
+    dc::inner::levels_over(quantizer, coefficients);
+    let count = coefficients.len();
+    whole::inner::copy(coefficients, &mut levels[0..count]);
 }

@@ -19,7 +19,7 @@ pub fn levels16(quantizer: Quantizer, prediction: &[u8], samples: &[u8], levels:
     ensures { λ _. ⌜ now (levels .exit) ≡ wholeLevels 16 (quantizer .qp) (now (samples .entry)) (now (prediction .entry)) ⌝ }
 {
     let mut coefficients = [0i32; 16];
-    coded::all_levels(
+    coded::macroblock_to_levels(
         16,
         quantizer,
         prediction,
@@ -27,8 +27,6 @@ pub fn levels16(quantizer: Quantizer, prediction: &[u8], samples: &[u8], levels:
         &mut coefficients,
         levels,
     );
-    let made = dc::inner::luma_levels(quantizer, coefficients);
-    whole::inner::copy(&made, &mut levels[0..16]);
 }
 
 // Those of 64.
@@ -37,9 +35,7 @@ pub fn levels8(quantizer: Quantizer, prediction: &[u8], samples: &[u8], levels: 
     ensures { λ _. ⌜ now (levels .exit) ≡ wholeLevels 8 (quantizer .qp) (now (samples .entry)) (now (prediction .entry)) ⌝ }
 {
     let mut coefficients = [0i32; 4];
-    coded::all_levels(8, quantizer, prediction, samples, &mut coefficients, levels);
-    let made = dc::inner::chroma_levels(quantizer, coefficients);
-    whole::inner::copy(&made, &mut levels[0..4]);
+    coded::macroblock_to_levels(8, quantizer, prediction, samples, &mut coefficients, levels);
 }
 
 // Whether all sixteen DC values fit 16 bits.

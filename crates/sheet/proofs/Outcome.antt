@@ -19,7 +19,7 @@ use Rattle.refusal.specs.declared.Refusal.{Refusal}
 use Rattle.refusal.specs.declared.Refusal.the-variants as refusal
 use Rattle.refusal.proofs.Same.{says, says-same, says-exactly-if}
 use Rattle.head.specs.Entry.{sizeHolds}
-use Rattle.head.proofs.Heads.{sized-of}
+use Rattle.head.proofs.Heads.{size-tells}
 use Rattle.picture.specs.Order.{Sound}
 use Rattle.picture.specs.Plane.{layoutOf, planeLength}
 use Rattle.sheet.specs.Code.{ofTotals, SumsOver, presentTotal, sheetFrom, Divides}
@@ -44,7 +44,7 @@ same-sheeted (answer.Refused r) answer.Nothing e g = cc
 same-sheeted (answer.Refused r) (answer.Refused t) e g = let p : r ≡ t = cc in ap answer.Refused p
 
 pub sound-of : (width height : ℕ) → sizeHolds width height ≡ true → Sound (layoutOf width height)
-sound-of width height e = let s = sized-of width height e in record { some = s .some; wide = s .wide; high = s .high; rows = s .tall }
+sound-of width height e = let s = size-tells width height e in record { some = s .some; wide = s .wide; high = s .high; rows = s .tall }
 
 -- ---- a law for each answer
 

@@ -7,26 +7,28 @@
 use mathlib.Core.Path.{_≡_, sym, ap, _∙_}
 use mathlib.Core.Bool.{true}
 use mathlib.Core.List.{List}
-use Prim.Native.Nat.{ℕ, zero, suc, _+_, _<_, _≤_}
+use Prim.Native.Nat.{ℕ, _+_, _<_, _≤_}
 use native.Mathlib.Omega.{arith}
+use lib.Dec.{eqb, eqb→eq}
 use lib.IntN.{ℤ}
 use lib.ListN.{length}
 use Rattle.lists.specs.Bytes.{Bytes}
-use Rattle.lists.specs.Tab.{grid}
-use Rattle.lists.proofs.Tab.{length-tab}
+use Rattle.lists.specs.Tab.{tab, grid}
+use Rattle.lists.proofs.Every.{every-at}
 use Rattle.lists.proofs.Bytes.{bytes-none, bytes-take, bytes-drop, bytes-grid}
 use Rattle.whole.specs.Clip.{clip}
 use Rattle.whole.proofs.Order.{clip-le}
 use Rattle.choice.specs.declared.inner.Standing.{Standing}
 use Rattle.choice.specs.Choice.{Best, nothing, at}
 use Rattle.intra4.specs.Samples.{Round}
-use Rattle.intra4.specs.Rules.{samplesOf, vertical, horizontal}
+use Rattle.intra4.specs.Rules.{none, samplesOf, vertical, horizontal}
 use Rattle.intra4.proofs.Bytes.{RoundBytes, KeepsBoth, masked-bytes, vertical-keeps, horizontal-keeps, mean-byte, one-bytes, three-of}
 use Rattle.intra4.proofs.Least.{cost-low}
 use Rattle.intra4.proofs.Masked.{samples-by}
+use Rattle.intra4.proofs.Modes.{each-of}
 use Rattle.sides.specs.Samples.{mask}
 use Rattle.sides.specs.Plane.{slanted, plane}
-use Rattle.sides.specs.Rules.{predicted, permitted}
+use Rattle.sides.specs.Rules.{modes, predicted, permitted}
 use Rattle.sides.specs.Choice.{chosen, bestSamples, Picks}
 use Rattle.sides.specs.Code.{filled}
 use Rattle.sides.proofs.Masked.{predicted-is, mode-below-4}
@@ -43,22 +45,27 @@ plane-keeps n T S t s x y = byte-clip _
 
 mode-bytes : (r : Round) → RoundBytes r → (m : ℕ) → Bytes (samplesOf (predicted r m))
 unfolding predicted
-mode-bytes r b zero = one-bytes 16 (r .above) (b .above) vertical vertical-keeps
-mode-bytes r b (suc zero) = one-bytes 16 (r .left) (b .left) horizontal horizontal-keeps
-mode-bytes r b (suc (suc zero)) = bytes-grid 16 _ (λ x y. mean-byte 16 (omega arith) (r .above) (r .left) (b .above) (b .left))
-mode-bytes r b (suc (suc (suc zero))) = three-of r b 16 (plane 16) (plane-keeps 16)
-mode-bytes r b (suc (suc (suc (suc m)))) = bytes-none
+mode-bytes r b m =
+    each-of (λ p. Bytes (samplesOf p)) none bytes-none (modes r) (
+      one-bytes 16 (r .above) (b .above) vertical vertical-keeps,
+      (
+        one-bytes 16 (r .left) (b .left) horizontal horizontal-keeps,
+        (
+          bytes-grid 16 _ (λ x y. mean-byte 16 (omega arith) (r .above) (r .left) (b .above) (b .left)),
+          (
+            three-of r b 16 (plane 16) (plane-keeps 16),
+            tt,
+          ),
+        ),
+      ),
+    ) m
 
 pub mask-bytes : (n : ℕ) (l : List ℕ) (f : ℕ) → Bytes l → RoundBytes (mask n l f)
 mask-bytes n l f b = masked-bytes f (bytes-take n _ (bytes-drop 1 l b)) (bytes-take n _ (bytes-drop (n + 1) l b)) (bytes-take 1 l b)
 
 length-filled : (above left corner : List ℕ) (f m : ℕ) → m < 4 → length (filled above left corner f m) ≡ 256
-unfolding filled grid
-length-filled above left corner f zero h = length-tab 256 _
-length-filled above left corner f (suc zero) h = length-tab 256 _
-length-filled above left corner f (suc (suc zero)) h = length-tab 256 _
-length-filled above left corner f (suc (suc (suc zero))) h = length-tab 256 _
-length-filled above left corner f (suc (suc (suc (suc m)))) h = absurd (omega arith)
+unfolding filled grid tab
+length-filled above left corner f m h = eqb→eq _ _ (every-at 4 (λ i. eqb (length (filled above left corner f i)) 256) tt m h)
 
 -- ---- the theorems
 

@@ -16,7 +16,7 @@ use Rattle.whole.specs.Clip.{clip}
 use Rattle.whole.specs.Notation.{_>>_}
 use Rattle.whole.specs.Sum.{sum}
 use Rattle.whole.proofs.Bound.{within-less}
-use Rattle.whole.proofs.Steps.{inp, sub, mul, sized-of, at-most, bounded-at}
+use Rattle.whole.proofs.Steps.{inp, sub, mul, size-of, at-most, bounded-at}
 use Rattle.whole.proofs.Sums.{sum-ext}
 use Rattle.whole.proofs.Ring.{ring, var, con, _⊕_, _⊖_, _⊗_}
 use Rattle.intra4.specs.Rules.{rowOf}
@@ -49,7 +49,7 @@ rise-small n b k h w l =
     let Bs : List ℕ = 600000 ∷ 16 ∷ 8 ∷ [] in
     let ρ : List ℤ = b ∷ pos k ∷ pos (n / 2 - 1) ∷ [] in
     within-less
-    (sized-of w32 (at-most Bs) ρ (bounded-at Bs ρ refl (w, (record { size = omega arith }, (record { size = omega arith }, tt)))) (mul (inp 0) (sub (inp 1) (inp 2))) tt)
+    (size-of w32 (at-most Bs) ρ (bounded-at Bs ρ refl (w, (record { size = omega arith }, (record { size = omega arith }, tt)))) (mul (inp 0) (sub (inp 1) (inp 2))) tt)
     tt
 
 -- the standard's sum in another order

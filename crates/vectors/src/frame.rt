@@ -82,6 +82,26 @@ pub(crate) fn signed(part: &[u8], place: usize) -> i32
     }
 }
 
+// A picture's size and the rows of a slice, which are the first arguments of a coder.
+pub(crate) struct Size {
+    pub(crate) width: usize,
+    pub(crate) height: usize,
+    pub(crate) rows: usize,
+}
+
+pub(crate) fn size_in(frame: &[u8]) -> Size
+    requires { ⌜ length (now frame) ≡ 33766 ⌝ }
+{
+    let width = eight(frame, 0) as usize;
+    let height = eight(frame, 8) as usize;
+    let rows = eight(frame, 16) as usize;
+    Size {
+        width: width,
+        height: height,
+        rows: rows,
+    }
+}
+
 pub(crate) fn numbers(part: &[u8]) -> [i32; 17]
     requires { ⌜ length (now part) ≡ 68 ⌝ }
     ensures { λ r. ⌜ length r ≡ 17 ⌝ }
@@ -94,10 +114,61 @@ pub(crate) fn numbers(part: &[u8]) -> [i32; 17]
 }
 
 // The length of a slice, cut to the room there is.
-pub(crate) fn lent(frame: &[u8], slice: usize, room: usize) -> usize
+fn lent(frame: &[u8], slice: usize, room: usize) -> usize
     requires { ⌜ (slice < 9) × (length (now frame) ≡ 33766) ⌝ }
     ensures { λ r. ⌜ r ≤ room ⌝ }
 {
     let length = two(frame, LENGTHS + 2 * slice) as usize;
     if length < room { length } else { room }
+}
+
+// The bytes of a slice that is lent, whose room is between two places.
+pub(crate) fn bytes_in(frame: &[u8], slice: usize, start: usize, end: usize) -> &[u8]
+    requires { ⌜ (slice < 9) × (length (now frame) ≡ 33766) × (start ≤ end) × (end ≤ 33766) ⌝ }
+{
+    let behind = start + lent(frame, slice, end - start);
+    &frame[start..behind]
+}
+
+// The part of an output's room that is lent.
+pub(crate) fn bytes_out<'a>(frame: &[u8], slice: usize, room: &'a mut [u8]) -> &'a mut [u8]
+    requires { ⌜ (slice < 9) × (length (now frame) ≡ 33766) ⌝ }
+{
+    let length = lent(frame, slice, room.len());
+    &mut room[0..length]
+}
+
+// The same of numbers: the list that is lent, and the part of an output's room.
+pub(crate) fn numbers_in<'a>(frame: &[u8], slice: usize, list: &'a [i32]) -> &'a [i32]
+    requires { ⌜ (slice < 9) × (length (now frame) ≡ 33766) ⌝ }
+{
+    let length = lent(frame, slice, list.len());
+    &list[0..length]
+}
+
+pub(crate) fn numbers_out<'a>(frame: &[u8], slice: usize, room: &'a mut [i32]) -> &'a mut [i32]
+    requires { ⌜ (slice < 9) × (length (now frame) ≡ 33766) ⌝ }
+{
+    let length = lent(frame, slice, room.len());
+    &mut room[0..length]
+}
+
+// Whether an output of numbers is left as expected.
+pub(crate) fn same_numbers(a: [i32; 17], b: [i32; 17]) -> bool {
+    for k in 0..NUMBERS {
+        if a[k] != b[k] {
+            return false;
+        }
+    }
+    true
+}
+
+// Whether an output of bytes is left as it stands between two places of the frame.
+pub(crate) fn has_bytes(frame: &[u8], start: usize, end: usize, out: &[u8]) -> bool
+    requires { ⌜ start ≤ end ⌝ }
+{
+    if frame.len() < end {
+        return false;
+    }
+    check::same(out, &frame[start..end])
 }

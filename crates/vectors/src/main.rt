@@ -4,16 +4,8 @@ mod calls;
 mod frame;
 mod recording;
 
+// A function by its number in `calls`, and the file of its recording: blocks, the DC paths, quantizers, planes and pictures.
 fn main() {
-    blocks();
-    dc_paths();
-    quantizers();
-    planes();
-    pictures();
-}
-
-// A function by its number in `calls`, and the file of its recording.
-fn blocks() {
     recording::run(0, b"fb_predict");
     recording::run(1, b"fb_choose");
     recording::run(2, b"fb_forward");
@@ -21,28 +13,16 @@ fn blocks() {
     recording::run(4, b"fb_rebuild");
     recording::run(5, b"fb_rebuild_with_dc");
     recording::run(11, b"fb_code_block");
-}
-
-fn dc_paths() {
     recording::run(6, b"fb_luma_dc_levels");
     recording::run(7, b"fb_luma_dc_values");
     recording::run(8, b"fb_chroma_dc_levels");
     recording::run(9, b"fb_chroma_dc_values");
-}
-
-fn quantizers() {
     recording::run(19, b"quantizer");
     recording::run(10, b"fb_chroma_quantizer");
     recording::run(12, b"fb_promised_distance");
-}
-
-fn planes() {
     recording::run(13, b"fb_code_plane");
     recording::run(14, b"fb_read_head");
     recording::run(15, b"fb_decode_plane");
-}
-
-fn pictures() {
     recording::run(17, b"fb_code_picture");
     recording::run(18, b"fb_decode_picture");
 }

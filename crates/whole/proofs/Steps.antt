@@ -4,7 +4,7 @@
 --     raw, read, ideal, expression                    what the machine computes, with the operands read back from their bits; what it reads back from the
 --                                                     result's bits; the same over ℤ; the same for the solver `ring`
 --     most, ok, most-of, ok-of                        the largest size of the result; no step overflows. Of numbers up to B, or each up to its own bound
---     safe, exact, sized, safe-of, exact-of, sized-of the last step does not overflow; what is read back is the ideal; its size
+--     safe, exact, sized, safe-of, exact-of, size-of  the last step does not overflow; what is read back is the ideal; its size
 --     each-at, Bounded, at-most, bounded-at           the bounds of a list, one for all or one for each, by place
 -- Assumes nothing.
 use mathlib.Core.Path.{_≡_}
@@ -125,8 +125,8 @@ module _ (w : Width) (β : ℕ → ℕ) (ρ : List ℤ) (h : (i : ℕ) → Withi
   exact-of e t = wrap w (raws e t) (last w β e t) .is
 
   -- and is no larger than computed
-  pub sized-of : (e : Code) → T (ok-of w β e) → Within (most-of β e) (ideal ρ e)
-  sized-of e t = record { size = raws e t .small }
+  pub size-of : (e : Code) → T (ok-of w β e) → Within (most-of β e) (ideal ρ e)
+  size-of e t = record { size = raws e t .small }
 
 -- ---- bounds by a list, one for each variable
 
@@ -155,7 +155,7 @@ module _ (w : Width) (B : ℕ) (ρ : List ℤ) (h : Each B ρ) where
   exact e t = exact-of w (λ i. B) ρ (each-at B ρ h) e t
 
   pub sized : (e : Code) → T (ok w B e) → Within (most B e) (ideal ρ e)
-  sized e t = sized-of w (λ i. B) ρ (each-at B ρ h) e t
+  sized e t = size-of w (λ i. B) ρ (each-at B ρ h) e t
 
 -- for the solver, of code without a shift: `value ρ (expression e)` computes to `ideal ρ e`
 abbrev pub expression : Code → Expression

@@ -12,7 +12,7 @@ use Rattle.plane.specs.Code.{inSlices, bytesUsed}
 use Rattle.plane.specs.declared.CodedPlane.{CodedPlane}
 use Rattle.plane.specs.declared.CodedPlane.the-variants.{Bytes, Refused}
 use Rattle.head.proofs.Back.{long-most}
-use Rattle.plane.proofs.Entry.{sound-of}
+use Rattle.plane.proofs.Entry.{sound-slices}
 use Rattle.frame.specs.Code.{CodesPicture}
 use Rattle.frame.proofs.CodedFrame.{length-coded-frame}
 use Rattle.frame.proofs.FrameOutcome.{frame-outcome}
@@ -27,7 +27,7 @@ small : {width height rows qp : ℕ} {cbOffset crOffset : ℤ} {luma cb cr file 
     → bytesUsed r < places
 small {width} {height} {rows} {qp} {cbOffset} {crOffset} {luma} {cb} {cr} {file} {lumaOut} {cbOut} {crOut} (Bytes used) {file′} {lumaOut′} {cbOut′} {crOut′} p =
     let o = frame-outcome width height rows qp cbOffset crOffset luma cb cr file lumaOut cbOut crOut used file′ lumaOut′ cbOut′ crOut′ p in
-    omega (arith, o .bytes, length-coded-frame (inSlices width height rows) qp cbOffset crOffset luma (record { cb = cb; cr = cr }), samples-fit (sound-of width height rows (o .size) (o .sliced)), long-most width height rows)
+    omega (arith, o .bytes, length-coded-frame (inSlices width height rows) qp cbOffset crOffset luma (record { cb = cb; cr = cr }), samples-fit (sound-slices width height rows (o .size) (o .sliced)), long-most width height rows)
 small (Refused r) p = omega arith
 
 of-plane-requires : tie.Need-of-plane-requires

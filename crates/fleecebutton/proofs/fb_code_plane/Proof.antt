@@ -10,7 +10,7 @@ use Rattle.plane.specs.declared.CodedPlane.the-variants.{Bytes, Refused}
 use Rattle.head.proofs.Back.{long-most}
 use Rattle.plane.proofs.CodedFile.{length-coded-file}
 use Rattle.plane.proofs.CodedOutcome.{outcome}
-use Rattle.plane.proofs.Entry.{sound-of}
+use Rattle.plane.proofs.Entry.{sound-slices}
 use Rattle.fleecebutton.specs.Word.{places}
 use Rattle.fleecebutton.proofs.Words.{value-sent}
 use Rattle.fleecebutton.proofs.fb_code_plane.Statement.{statement}
@@ -22,7 +22,7 @@ small : {width height rows qp : ℕ} {plane file rebuilt : List ℕ} (r : CodedP
     → bytesUsed r < places
 small {width} {height} {rows} {qp} {plane} {file} {rebuilt} (Bytes used) {file′} {rebuilt′} p =
     let o = outcome width height rows qp plane file rebuilt used file′ rebuilt′ p in
-    omega (arith, o .bytes, length-coded-file (inSlices width height rows) qp plane, samples-fit (sound-of width height rows (o .size) (o .sliced)), long-most width height rows)
+    omega (arith, o .bytes, length-coded-file (inSlices width height rows) qp plane, samples-fit (sound-slices width height rows (o .size) (o .sliced)), long-most width height rows)
 small (Refused r) p = omega arith
 
 of-plane-requires : tie.Need-of-plane-requires

@@ -22,9 +22,10 @@ use Rattle.head.proofs.Heads.{rows-of}
 use Rattle.picture.specs.declared.Layout.{Layout}
 use Rattle.picture.specs.Order.{Sound}
 use Rattle.picture.specs.Plane.{planeLength}
+use Rattle.macroblock_chroma.specs.Code.{pair}
 use Rattle.plane.specs.Code.{inSlices}
 use Rattle.plane.specs.Decode.{cleared}
-use Rattle.plane.proofs.Entry.{sound-of}
+use Rattle.plane.proofs.Entry.{sound-slices}
 use Rattle.frame.specs.Code.{frameTests}
 use Rattle.frame.proofs.FrameOutcome.{bad-size, bad-rows, frame-refused, picture-coded}
 use Rattle.frame.proofs.Tested.{FrameTold, frame-told}
@@ -70,7 +71,7 @@ sliced : (c : tie.Else2) → rowsHold (began c .args .height) (began c .args .ro
 sliced c = sym (c .before .rows-hold .ensures) ∙ not-false _ (c .if2 .left)
 
 sound : (c : tie.Else2) → Sound (layout (began c))
-sound c = sound-of _ _ _ (sized (c .before .before)) (sliced c)
+sound c = sound-slices _ _ _ (sized (c .before .before)) (sliced c)
 
 returns : tie.Need-returns
 returns c =
@@ -182,8 +183,8 @@ returns-4 c =
     let a = s .args in
     let y = F .code-frame .ensures in
     picture-coded _ _ _ _ _ _ (a .luma .now) (a .cb .now) (a .cr .now) (a .file .now) (a .luma-out .now) (a .cb-out .now) (a .cr-out .now)
-    (sized (E .before .before)) (sliced E) (passed Q) (number Q) (cb-same s) (cr-same s) (luma-cleared C) (λ i. record { cb = cb-cleared C i; cr = cr-cleared C i })
-    (y .0) (y .1 .0) (y .1 .1 .0) (y .1 .1 .1 .0) (y .1 .1 .1 .1)
+    (sized (E .before .before)) (sliced E) (passed Q) (number Q) (cb-same s) (cr-same s) (luma-cleared C) (λ i. pair (cb-cleared C i) (cr-cleared C i))
+    (y .0) (y .1 .0) (y .1 .1 .0) (y .1 .1 .1)
 
 pub code-picture-spec : {M : Type 1} → statement M
 code-picture-spec =

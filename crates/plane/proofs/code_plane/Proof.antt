@@ -15,7 +15,7 @@ use Rattle.picture.specs.Order.{Sound}
 use Rattle.plane.specs.Code.{inSlices, areaLength, fileFrom, planeFrom}
 use Rattle.plane.specs.Decode.{cleared}
 use Rattle.plane.proofs.CodedOutcome.{bad-size, bad-rows, plane-missed, file-missed, rebuilt-missed, high-quantizer, plane-coded}
-use Rattle.plane.proofs.Entry.{sound-of}
+use Rattle.plane.proofs.Entry.{sound-slices}
 use Rattle.plane.proofs.code_plane.Statement.{statement}
 use Rattle.plane.proofs.code_plane.Tie as tie
 
@@ -42,7 +42,7 @@ sliced c = sym (c .before .rows-hold .ensures) ∙ not-false _ (c .if2 .left)
 
 sound : (c : tie.Else2)
     → let a = c .before .before .before .before .before .before .before .args in Sound (inSlices (a .width) (a .height) (a .rows))
-sound c = sound-of _ _ _ (sized (c .before .before)) (sliced c)
+sound c = sound-slices _ _ _ (sized (c .before .before)) (sliced c)
 
 small : (c : tie.Else2) → c .before .before .before .before .before .before .before .args .width * c .before .before .before .before .before .before .before .args .height ≤ 16384
 small c = omega (arith, samples-fit (sound c))

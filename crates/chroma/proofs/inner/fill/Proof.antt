@@ -22,7 +22,7 @@ returns c =
     let f = m .before .before in
     let s = f .before .before .before .before .before .before in
     dc-is (s .args .neighbours .now) _ _ (s .pre .1) (f .before .match .keys1) (f .flag .ensures) (m .before .flag2 .ensures) (m .means .ensures)
-    (p .put-means .ensures)
+    (p .put-quarters .ensures)
 
 returns-2 : tie.Need-returns-2
 returns-2 c =

@@ -1,6 +1,6 @@
 -- `dc::inner::chroma_values` meets its contract: through the 2x2 H, and the plain shift. Assumes nothing.
 use borrow.Author.Needs.{needs}
-use mathlib.Core.Path.{_≡_, refl, sym, ap, _∙_}
+use mathlib.Core.Path.{_≡_, refl, ap, _∙_}
 use Prim.Native.Nat.{ℕ, _*_, _^_}
 use native.Mathlib.Omega.{arith}
 use lib.IntN.{ℤ, pos, _*ℤ_}
@@ -30,7 +30,7 @@ scale-all-requires c κs =
     let s = h .before in
     let qp = s .args .quantizer .qp in
     let g = kept 131072 (h .hadamard2 .ensures) (chroma-back (s .args .levels) (s .pre .1)) in (
-      sym (many h),
+      omega (arith, many h),
       (λ k l. products-fit 131072 8 4 qp (periodOf qp) (h .hadamard2 .result) (scale-is scale) (omega arith) g tt tt k (omega (arith, l, many h))),
       omega arith,
       omega arith,

@@ -1,6 +1,6 @@
 -- `dc::inner::luma_scaled` meets its contract: the scaling rule at k = 2. Assumes nothing.
 use borrow.Author.Needs.{needs}
-use mathlib.Core.Path.{_≡_, sym, ap, _∙_}
+use mathlib.Core.Path.{_≡_, ap, _∙_}
 use Prim.Native.Nat.{ℕ, _-_, _*_, _/_, _^_}
 use native.Mathlib.Omega.{arith}
 use lib.IntN.{pos, _*ℤ_}
@@ -33,7 +33,7 @@ scale-all-requires c κs =
     let shift = c .before .before .before in
     let period = shift .before .before .before in
     let s = period .before in (
-      sym (many s),
+      omega (arith, many s),
       (λ k l. products-fit 524288 6 16 (qpOf period) (periodOf (qpOf period) - 2) (s .args .g) (scale-is (shift .before)) (omega arith) (s .pre .1) tt tt k (omega (arith, l, many s))),
       c .half .ensures .1,
       omega (arith, shift-is shift),

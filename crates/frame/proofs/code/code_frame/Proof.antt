@@ -17,6 +17,7 @@ use Rattle.record.specs.Kinds.{inFours, inChroma, lengthOf}
 use Rattle.head.proofs.Back.{length-head, long-most}
 use Rattle.picture.specs.Both.{Both}
 use Rattle.picture.proofs.Plane.{samples-fit}
+use Rattle.macroblock_chroma.specs.Code.{pair}
 use Rattle.plane.specs.Code.{headFor}
 use Rattle.plane.proofs.Coding.{same-area}
 use Rattle.frame.specs.Code.{frameFrom, bothFrom}
@@ -27,8 +28,8 @@ use Rattle.frame.proofs.code.code_frame.Tie as tie
 
 abbrev Inv-loop : tie.InvT-loop
 Inv-loop layout quantizer cb-offset cr-offset luma cb cr file₀ luma-out₀ cb-out₀ cr-out₀ place₀ count m₀ file luma-out cb-out cr-out place m =
-    FrameCoded layout (quantizer .qp) (toZ w32 cb-offset) (toZ w32 cr-offset) luma (record { cb = cb; cr = cr }) luma-out₀ (record { cb = cb-out₀; cr = cr-out₀ }) file₀
-    file luma-out (record { cb = cb-out; cr = cr-out }) place m
+    FrameCoded layout (quantizer .qp) (toZ w32 cb-offset) (toZ w32 cr-offset) luma (pair cb cr) luma-out₀ (pair cb-out₀ cr-out₀) file₀
+    file luma-out (pair cb-out cr-out) place m
 
 abbrev μ-loop : tie.MeasureT-loop
 μ-loop layout quantizer cb-offset cr-offset luma cb cr file₀ luma-out₀ cb-out₀ cr-out₀ place₀ count m₀ file luma-out cb-out cr-out place m = count - m
@@ -59,10 +60,10 @@ cr-same s = toZ-ofZ w32 (s .args .cr-offset) (s .fits .cr-offset)
 
 -- both planes of chroma, and those to be rebuilt, as they were lent
 abbrev chroma : tie.Start Inv-loop μ-loop → Both
-chroma s = record { cb = s .args .cb .now; cr = s .args .cr .now }
+chroma s = pair (s .args .cb .now) (s .args .cr .now)
 
 abbrev rebuilt : tie.Start Inv-loop μ-loop → Both
-rebuilt s = record { cb = s .args .cb-out .now; cr = s .args .cr-out .now }
+rebuilt s = pair (s .args .cb-out .now) (s .args .cr-out .now)
 
 cast-write-head : tie.Need-cast-write-head Inv-loop μ-loop
 cast-write-head c = let w = c .before .before .before .before .before .before .before .before .pre .0 .0 .wide in record { fits = omega (arith, w) }
@@ -127,7 +128,7 @@ add-place c =
     let s = began L in
     let n =
     length-records-from (s .args .layout) (s .args .quantizer .qp) (for-cb s) (for-cr s) (s .args .luma .now) (chroma s)
-    (L .loop .m) (L .loop .luma-out) (record { cb = L .loop .cb-out; cr = L .loop .cr-out }) in
+    (L .loop .m) (L .loop .luma-out) (pair (L .loop .cb-out) (L .loop .cr-out)) in
     let p = length-frame-to (s .args .layout) (s .args .quantizer .qp) (for-cb s) (for-cr s) (s .args .luma .now) (chroma s) (s .args .luma-out .now) (rebuilt s) (L .loop .m) in
     let f = small s in
     record { fits = omega (arith, R .code-records .ensures .0, n, L .loop .inv .front .next, p, f, I .loop-test .taken, long-most 0 (s .args .layout .height) (s .args .layout .rows)) }
@@ -146,7 +147,7 @@ loop-again c =
     let s = began L in
     let e = R .code-records .ensures in
     frame-more (s .args .layout) (s .args .quantizer .qp) (for-cb s) (for-cr s) (s .args .luma .now) (chroma s) _ _ _ (s .pre .0 .0 .some) (L .loop .inv) (I .loop-test .taken)
-    refl (e .0) (e .1 .0) (e .1 .1 .0) (e .1 .1 .1 .0) (e .1 .1 .1 .1)
+    refl (e .0) (e .1 .0) (e .1 .1 .0) (e .1 .1 .1)
 
 returns : tie.Need-returns Inv-loop μ-loop
 returns c =
@@ -161,7 +162,7 @@ returns c =
     ≡ frameFrom (s .args .layout) (s .args .quantizer .qp) (s .args .cb-offset) (s .args .cr-offset) (s .args .luma .now) (chroma s) (s .args .luma-out .now) (rebuilt s) =
     λ i. frameFrom (s .args .layout) (s .args .quantizer .qp) (cb-same s i) (cr-same s i) (s .args .luma .now) (chroma s) (s .args .luma-out .now) (rebuilt s) in
     let both = d .3 ∙ (λ i. bothFrom (s .args .layout) (s .args .quantizer .qp) (cb-same s i) (cr-same s i) (chroma s) (rebuilt s)) in
-    (d .0 ∙ ap length file, (d .1 ∙ ap (λ (x : List ℕ). over x (s .args .file .now)) file, (d .2, (ap (λ (b : Both). b .cb) both, ap (λ (b : Both). b .cr) both))))
+    (d .0 ∙ ap length file, (d .1 ∙ ap (λ (x : List ℕ). over x (s .args .file .now)) file, (d .2, both)))
 
 same-length : tie.Need-same-length Inv-loop μ-loop
 same-length c =

@@ -13,7 +13,7 @@ use Rattle.whole.specs.Range.{inside}
 use Rattle.record.specs.Kinds.{inChroma, lengthOf}
 use Rattle.picture.specs.Both.{Both}
 use Rattle.macroblock.proofs.RecordFrom.{length-record-from}
-use Rattle.macroblock_chroma.specs.Code.{codedStepChroma}
+use Rattle.macroblock_chroma.specs.Code.{pair, codedStepChroma}
 use Rattle.frame.proofs.CodingFrame.{records-made}
 use Rattle.frame.proofs.code.code_records.Statement.{statement}
 use Rattle.frame.proofs.code.code_records.Tie as tie
@@ -69,21 +69,15 @@ returns c =
     let a = s .args in
     let x = C .code-macroblock .ensures in
     let y = D .code-chroma .ensures in
-    let chroma : Both = record { cb = a .cb .now; cr = a .cr .now } in
-    let both : Both = record { cb = a .cb-out .now; cr = a .cr-out .now } in
+    let chroma : Both = pair (a .cb .now) (a .cr .now) in
+    let both : Both = pair (a .cb-out .now) (a .cr-out .now) in
     let f =
     records-made (a .layout) (a .quantizer .qp) (a .cb-offset) (a .cr-offset) (a .luma .now) chroma (a .m) (a .luma-out .now) both (a .file .now) (s .pre .1 .1 .0)
     (N .number .ensures) (cb-handed s) (cr-handed s) refl (x .0) (x .1 .0) (y .0) (y .1 .0) in (
       f .next,
       (
         f .filled,
-        (
-          x .1 .1,
-          (
-            y .1 .1 .0 ∙ (λ i. codedStepChroma (a .layout) (N .number .ensures i) (cb-handed s i) (cr-handed s i) chroma (a .m) both .cb),
-            y .1 .1 .1 ∙ (λ i. codedStepChroma (a .layout) (N .number .ensures i) (cb-handed s i) (cr-handed s i) chroma (a .m) both .cr),
-          ),
-        ),
+        (x .1 .1, y .1 .1 ∙ (λ i. codedStepChroma (a .layout) (N .number .ensures i) (cb-handed s i) (cr-handed s i) chroma (a .m) both)),
       ),
     )
 

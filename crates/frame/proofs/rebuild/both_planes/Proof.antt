@@ -15,7 +15,7 @@ returns c =
     let a = s .args in
     let luma = lumaIn (a .file .now) (a .start) in
     let chroma = chromaIn (a .file .now) (a .start) in
-    let e = R .rebuild-both .ensures in (
+    let e = R .rebuild-all .ensures in (
       e .0 ∙ ap (cbFrom (a .layout) luma chroma) (C .clear .ensures ∙ ap cleared (s .pre .1 .0)),
       e .1 ∙ ap (crFrom (a .layout) luma chroma) (D .clear2 .ensures ∙ ap cleared (s .pre .1 .1)),
     )

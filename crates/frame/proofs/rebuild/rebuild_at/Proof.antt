@@ -1,5 +1,5 @@
 -- `frame::rebuild::rebuild_at` meets its contract: both planes by the record behind luma's. Assumes nothing.
-use mathlib.Core.Path.{_≡_, sym, ap, _∙_}
+use mathlib.Core.Path.{sym, ap, _∙_}
 use native.Mathlib.Omega.{arith}
 use borrow.Author.Needs.{needs}
 use lib.ListN.{length}

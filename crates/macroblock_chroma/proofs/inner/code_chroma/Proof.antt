@@ -11,14 +11,13 @@ use mir.Val.{ofZ, toZ, SFits}
 use mir.ValLaws.{toZ-ofZ}
 use Rattle.lists.specs.Parts.{over}
 use Rattle.lists.proofs.Bytes.{bytes-known}
-use Rattle.refusal.proofs.Faults.{false-not-true}
-use Rattle.quantizer.proofs.Offsets.{PlaneQuantizer, chroma-built, chroma-built-refused, plane-legal}
+use Rattle.quantizer.proofs.Offsets.{plane-legal}
 use Rattle.picture.specs.Both.{Both}
 use Rattle.picture.proofs.Plane.{samples-fit}
-use Rattle.macroblock_chroma.specs.Code.{codedStepChroma}
+use Rattle.macroblock_chroma.specs.Code.{pair, codedStepChroma}
 use Rattle.macroblock_chroma.proofs.CodedRecord.{BytesBoth, cbOwn, crOwn, length-both, both-fit, written-chroma}
 use Rattle.macroblock_chroma.proofs.Making.{levels-made, coded-made}
-use Rattle.macroblock_chroma.proofs.Offsets.{offset-fits}
+use Rattle.macroblock_chroma.proofs.Offsets.{offset-fits, PlanesQuantized, both-legal, both-not-refused}
 use Rattle.macroblock_chroma.proofs.inner.code_chroma.Statement.{statement}
 use Rattle.macroblock_chroma.proofs.inner.code_chroma.Tie as tie
 
@@ -34,57 +33,40 @@ small s = omega (arith, samples-fit (s .pre .0 .0 .sound), s .pre .0 .0 .macrobl
 
 -- ---- an offset in its range is never refused
 
+abbrev start : tie.After-both-quantizers → tie.Start
+start c = c .before .before .before .before .before .before
+
 returns : tie.Need-returns
 returns c =
     let Q = c .before .before in
-    let s = Q .before .before .before .before .before .before in
-    absurd (false-not-true (sym (chroma-built-refused _ _ (s .pre .0 .1) (Q .chroma-quantizer .ensures) (cb-handed s) (c .enum-told .given .1)) ∙ s .pre .0 .2))
+    let s = start Q in
+    absurd (both-not-refused _ _ _ (Q .both-quantizers .ensures) (cb-handed s) (cr-handed s) (s .pre .0 .2) (s .pre .0 .3) (c .enum-told .given .1))
 
-abbrev start : tie.After-first → tie.Start
-start c = c .before .before .before .before .before .before .before .before
+abbrev told : tie.After-first → tie.Start
+told c = start (c .before .before)
 
-cb-built : (c : tie.After-first) → PlaneQuantizer (start c .args .qp) (start c .args .cb-offset) (c .first .given .0 .0)
-cb-built c =
-    let Q = c .before .before in
-    chroma-built _ _ (Q .chroma-quantizer .ensures) (cb-handed (start c)) (c .first .given .1)
-
-returns-2 : tie.Need-returns-2
-returns-2 c =
-    let Q = c .before .before in
-    let s = start (Q .before .before) in
-    absurd (false-not-true (sym (chroma-built-refused _ _ (s .pre .0 .1) (Q .chroma-quantizer2 .ensures) (cr-handed s) (c .enum-told2 .given .1)) ∙ s .pre .0 .3))
-
--- the answer for Cb, from behind that for Cr
-abbrev behind : tie.After-second → tie.After-first
-behind c = c .before .before .before .before
-
-abbrev told : tie.After-second → tie.Start
-told c = start (behind c)
-
-cr-built : (c : tie.After-second) → PlaneQuantizer (told c .args .qp) (told c .args .cr-offset) (c .second .given .0 .0)
-cr-built c =
-    let Q = c .before .before in
-    chroma-built _ _ (Q .chroma-quantizer2 .ensures) (cr-handed (told c)) (c .second .given .1)
+quantized : (c : tie.After-first) → PlanesQuantized (told c .args .qp) (told c .args .cb-offset) (told c .args .cr-offset) (c .first .given .0 .0) (c .first .given .0 .1 .0)
+quantized c = both-legal _ _ _ (c .before .before .both-quantizers .ensures) (cb-handed (told c)) (cr-handed (told c)) (c .first .given .1)
 
 -- ---- both planes
 
-abbrev built : tie.After-predict-both → tie.After-second
+abbrev built : tie.After-predict-both → tie.After-first
 built c = c .before .before .before .before .before .before
 
 abbrev originals : tie.Start → Both
-originals s = record { cb = s .args .cb .now; cr = s .args .cr .now }
+originals s = pair (s .args .cb .now) (s .args .cr .now)
 
 abbrev before : tie.Start → Both
-before s = record { cb = s .args .cb-out .now; cr = s .args .cr-out .now }
+before s = pair (s .args .cb-out .now) (s .args .cr-out .now)
 
-original-bytes : (c : tie.After-first) → BytesBoth (originals (start c))
+original-bytes : (c : tie.After-both-quantizers) → BytesBoth (originals (start c))
 original-bytes c =
-    let K = c .before .before .before .before .before .before in
+    let K = c .before .before .before .before in
     record { cbs = bytes-known (start c .args .cb .now) (K .before .shared-slice-known .given); crs = bytes-known (start c .args .cr .now) (K .shared-slice-known2 .given) }
 
-before-bytes : (c : tie.After-first) → BytesBoth (before (start c))
+before-bytes : (c : tie.After-both-quantizers) → BytesBoth (before (start c))
 before-bytes c =
-    let K = c .before .before .before in
+    let K = c .before in
     record { cbs = bytes-known (start c .args .cb-out .now) (K .before .slice-known2 .given); crs = bytes-known (start c .args .cr-out .now) (K .slice-known3 .given) }
 
 code-both-requires : tie.Need-code-both-requires
@@ -92,7 +74,7 @@ code-both-requires c κs =
     let N = c .before .before .before .before .before in
     let B = built (N .before .before) in
     let s = told B in (
-      (s .pre .0 .0, plane-legal _ _ (cb-built (behind B)), plane-legal _ _ (cr-built B), s .pre .1 .0 .0, s .pre .1 .0 .1),
+      (s .pre .0 .0, plane-legal _ _ (quantized B .cbs), plane-legal _ _ (quantized B .crs), s .pre .1 .0 .0, s .pre .1 .0 .1),
       ((N .before .cb-prediction2 .given, N .cr-prediction2 .given, search needs), (s .pre .1 .1 .0, s .pre .1 .1 .1)),
     )
 
@@ -113,32 +95,35 @@ levels-are c =
     let s = told B in
     let a = s .args in
     let p = P .predict-both .ensures in
-    let x = levels-made (a .layout) (a .m) (a .cb .now) (a .cb-out .now) _ (p .chosen) (cb-built (behind B) .is) (p .cbShown) in
-    let y = levels-made (a .layout) (a .m) (a .cr .now) (a .cr-out .now) _ (p .chosen) (cr-built B .is) (p .crShown) in
+    let x = levels-made (a .layout) (a .m) (a .cb .now) (a .cb-out .now) _ (p .chosen) (quantized B .cbs .is) (p .cbShown) in
+    let y = levels-made (a .layout) (a .m) (a .cr .now) (a .cr-out .now) _ (p .chosen) (quantized B .crs .is) (p .crShown) in
     c .code-both .ensures .0 ∙ (λ i. x i ++ y i)
 
-chroma-over-requires : tie.Need-chroma-over-requires
-chroma-over-requires c κs =
+cast-write-chroma : tie.Need-cast-write-chroma
+cast-write-chroma c = record { fits = omega (arith, small (told (built (predicted (c .before .before .before .before .before))))) }
+
+write-chroma-requires : tie.Need-write-chroma-requires
+write-chroma-requires c κs =
     let C = c .before .before .before .before .before .before .before in
     let B = built (predicted C) in
     let s = told B in
     let a = s .args in
     let e = levels-are C in (
       (
-        small s,
         s .pre .1 .0 .2,
         subst (λ (z : ℤ). SFits w8 z) (sym (cb-handed s)) (offset-fits (a .cb-offset) (s .pre .0 .2)),
         subst (λ (z : ℤ). SFits w8 z) (sym (cr-handed s)) (offset-fits (a .cr-offset) (s .pre .0 .3)),
       ),
       (
         ap length e ∙ length-both (a .layout) (a .qp) (a .cb-offset) (a .cr-offset) (originals s) (a .m) (before s),
-        λ k. subst (λ (l : List ℤ). SFits w16 (getD l k (pos 0))) (sym e) (both-fit (a .layout) (a .qp) (a .cb-offset) (a .cr-offset) (originals s) (a .m) (before s) (original-bytes (behind B)) (before-bytes (behind B)) k),
+        λ k. subst (λ (l : List ℤ). SFits w16 (getD l k (pos 0))) (sym e)
+            (both-fit (a .layout) (a .qp) (a .cb-offset) (a .cr-offset) (originals s) (a .m) (before s) (original-bytes (B .before .before)) (before-bytes (B .before .before)) k),
       ),
     )
 
-returns-3 : tie.Need-returns-3
+returns-2 : tie.Need-returns-2
 unfolding codedStepChroma
-returns-3 c =
+returns-2 c =
     let O = c .before .before in
     let C = O .before .before .before .before .before .before .before .before in
     let P = predicted C in
@@ -147,14 +132,13 @@ returns-3 c =
     let a = s .args in
     let p = P .predict-both .ensures in
     let made = C .code-both .ensures .1 in
-    let written = written-chroma (a .layout) (a .qp) (a .cb-offset) (a .cr-offset) (originals s) (a .m) (before s) (cb-handed s) (cr-handed s) (p .chosen) (levels-are C) in (
-      O .chroma-over .ensures .0,
+    let written = written-chroma (a .layout) (a .qp) (a .cb-offset) (a .cr-offset) (originals s) (a .m) (before s) (cb-handed s) (cr-handed s) (p .chosen) (levels-are C) in
+    let x = coded-made (a .layout) (a .m) (a .cb .now) (a .cb-out .now) _ (p .chosen) (quantized B .cbs .is) (p .cbShown) (made .0) in
+    let y = coded-made (a .layout) (a .m) (a .cr .now) (a .cr-out .now) _ (p .chosen) (quantized B .crs .is) (p .crShown) (made .1) in (
+      O .write-chroma .ensures .0,
       (
-        O .chroma-over .ensures .1 ∙ ap (λ (r : List ℕ). over r (a .file .now)) written,
-        (
-          coded-made (a .layout) (a .m) (a .cb .now) (a .cb-out .now) _ (p .chosen) (cb-built (behind B) .is) (p .cbShown) (made .0),
-          coded-made (a .layout) (a .m) (a .cr .now) (a .cr-out .now) _ (p .chosen) (cr-built B .is) (p .crShown) (made .1),
-        ),
+        O .write-chroma .ensures .1 ∙ ap (λ (r : List ℕ). over r (a .file .now)) written,
+        (λ i. pair (x i) (y i)),
       ),
     )
 
@@ -166,10 +150,6 @@ code-chroma-spec =
     (λ c. search needs)
     (λ c. search needs)
     returns
-    (λ c κs. search needs)
-    (λ c. search needs)
-    (λ c. search needs)
-    returns-2
     (λ c. search needs)
     (λ c. search needs)
     (λ c κs. search needs)
@@ -177,9 +157,10 @@ code-chroma-spec =
     (λ c. search needs)
     (λ c. search needs)
     code-both-requires
+    cast-write-chroma
     (λ c. search needs)
-    chroma-over-requires
+    write-chroma-requires
     (λ c. search needs)
     (λ c. search needs)
     (λ c. search needs)
-    returns-3)
+    returns-2)

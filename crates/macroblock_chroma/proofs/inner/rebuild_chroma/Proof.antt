@@ -6,9 +6,8 @@ use lib.ListN.{take, drop}
 use mir.Syntax.{w32}
 use mir.Val.{ofZ, toZ}
 use mir.ValLaws.{toZ-ofZ}
-use Rattle.refusal.proofs.Faults.{false-not-true}
 use Rattle.whole.specs.Bounds.{Each}
-use Rattle.quantizer.proofs.Offsets.{PlaneQuantizer, chroma-built, chroma-built-refused, plane-legal}
+use Rattle.quantizer.proofs.Offsets.{plane-legal}
 use Rattle.chroma.specs.Rules.{permitted}
 use Rattle.record.specs.Records.{cbOffsetIn, crOffsetIn}
 use Rattle.picture.specs.Whole.{flagsRound}
@@ -17,48 +16,32 @@ use Rattle.macroblock_chroma.specs.Content.{cbLevelsIn, crLevelsIn}
 use Rattle.macroblock_chroma.specs.Fine.{inRange}
 use Rattle.macroblock_chroma.proofs.Contents.{both-small}
 use Rattle.macroblock_chroma.proofs.Making.{cb-made, cr-made}
+use Rattle.macroblock_chroma.proofs.Offsets.{PlanesQuantized, both-legal, both-not-refused}
 use Rattle.macroblock_chroma.proofs.inner.rebuild_chroma.Statement.{statement}
 use Rattle.macroblock_chroma.proofs.inner.rebuild_chroma.Tie as tie
 
 -- ---- an offset of a fine record is never refused
 
-cb-handed : (c : tie.After-cb-offset) → toZ w32 (ofZ w32 (c .cb-offset .result)) ≡ cbOffsetIn (c .before .before .before .before .args .part .now)
-cb-handed c = toZ-ofZ w32 _ (record { sfits = c .cb-offset .ok }) ∙ c .cb-offset .ensures
+abbrev start : tie.After-both-quantizers → tie.Start
+start c = c .before .before .before .before .before .before
+
+cb-handed : (c : tie.After-both-quantizers) → toZ w32 (ofZ w32 (c .before .before .cb-offset .result)) ≡ cbOffsetIn (start c .args .part .now)
+cb-handed c = let O = c .before .before in toZ-ofZ w32 _ (record { sfits = O .cb-offset .ok }) ∙ O .cb-offset .ensures
+
+cr-handed : (c : tie.After-both-quantizers) → toZ w32 (ofZ w32 (c .before .cr-offset .result)) ≡ crOffsetIn (start c .args .part .now)
+cr-handed c = let O = c .before in toZ-ofZ w32 _ (record { sfits = O .cr-offset .ok }) ∙ O .cr-offset .ensures
 
 returns : tie.Need-returns
 returns c =
     let Q = c .before .before in
-    let s = Q .before .before .before .before .before in
-    absurd (false-not-true (sym (chroma-built-refused _ _ (s .pre .0 .1) (Q .chroma-quantizer .ensures) (cb-handed (Q .before)) (c .enum-told .given .1)) ∙ s .pre .0 .3 .cbOffset))
+    let fine = start Q .pre .0 .3 in
+    absurd (both-not-refused _ _ _ (Q .both-quantizers .ensures) (cb-handed Q) (cr-handed Q) (fine .cbOffset) (fine .crOffset) (c .enum-told .given .1))
 
-abbrev start : tie.After-first → tie.Start
-start c = c .before .before .before .before .before .before .before
+abbrev told : tie.After-first → tie.Start
+told c = start (c .before .before)
 
-cb-built : (c : tie.After-first) → PlaneQuantizer (start c .args .qp) (cbOffsetIn (start c .args .part .now)) (c .first .given .0 .0)
-cb-built c =
-    let Q = c .before .before in
-    chroma-built _ _ (Q .chroma-quantizer .ensures) (cb-handed (Q .before)) (c .first .given .1)
-
-cr-handed : (c : tie.After-cr-offset) → toZ w32 (ofZ w32 (c .cr-offset .result)) ≡ crOffsetIn (start (c .before .before) .args .part .now)
-cr-handed c = toZ-ofZ w32 _ (record { sfits = c .cr-offset .ok }) ∙ c .cr-offset .ensures
-
-returns-2 : tie.Need-returns-2
-returns-2 c =
-    let Q = c .before .before in
-    let s = start (Q .before .before .before) in
-    absurd (false-not-true (sym (chroma-built-refused _ _ (s .pre .0 .1) (Q .chroma-quantizer2 .ensures) (cr-handed (Q .before)) (c .enum-told2 .given .1)) ∙ s .pre .0 .3 .crOffset))
-
--- the answer for Cb, from behind that for Cr
-abbrev behind : tie.After-second → tie.After-first
-behind c = c .before .before .before .before .before
-
-abbrev told : tie.After-second → tie.Start
-told c = start (behind c)
-
-cr-built : (c : tie.After-second) → PlaneQuantizer (told c .args .qp) (crOffsetIn (told c .args .part .now)) (c .second .given .0 .0)
-cr-built c =
-    let Q = c .before .before in
-    chroma-built _ _ (Q .chroma-quantizer2 .ensures) (cr-handed (Q .before)) (c .second .given .1)
+quantized : (c : tie.After-first) → PlanesQuantized (told c .args .qp) (cbOffsetIn (told c .args .part .now)) (crOffsetIn (told c .args .part .now)) (c .first .given .0 .0) (c .first .given .0 .1 .0)
+quantized c = let Q = c .before .before in both-legal _ _ _ (Q .both-quantizers .ensures) (cb-handed Q) (cr-handed Q) (c .first .given .1)
 
 -- ---- both planes
 
@@ -78,8 +61,8 @@ rebuild-both-requires c κs =
     let s = told B in
     let fine = s .pre .0 .3 in
     let e = W .both-levels .ensures in
-    let cb = cb-built (behind B) in
-    let cr = cr-built B in (
+    let cb = quantized B .cbs in
+    let cr = quantized B .crs in (
       (s .pre .0 .0, flagged F, (λ i. permitted (flagged F i) (M .chroma-mode .ensures i)) ∙ fine .mode, plane-legal _ _ cb, plane-legal _ _ cr),
       (
         (
@@ -92,8 +75,8 @@ rebuild-both-requires c κs =
       ),
     )
 
-returns-3 : tie.Need-returns-3
-returns-3 c =
+returns-2 : tie.Need-returns-2
+returns-2 c =
     let R = c .before .before .before .before in
     let W = R .before .before .before .before .before in
     let M = W .before .before in
@@ -101,8 +84,8 @@ returns-3 c =
     let a = told B .args in
     let e = W .both-levels .ensures in
     let m = M .chroma-mode .ensures in (
-      cb-made (a .layout) (a .m) (a .cb .now) (a .qp) (a .part .now) (cb-built (behind B) .is) m e (R .rebuild-both .ensures .0),
-      cr-made (a .layout) (a .m) (a .cr .now) (a .qp) (a .part .now) (cr-built B .is) m e (R .rebuild-both .ensures .1),
+      cb-made (a .layout) (a .m) (a .cb .now) (a .qp) (a .part .now) (quantized B .cbs .is) m e (R .rebuild-both .ensures .0),
+      cr-made (a .layout) (a .m) (a .cr .now) (a .qp) (a .part .now) (quantized B .crs .is) m e (R .rebuild-both .ensures .1),
     )
 
 pub rebuild-chroma-spec : {M : Type 1} → statement M
@@ -111,14 +94,10 @@ rebuild-chroma-spec =
     (tie.spec
     (λ c κs. search needs)
     (λ c κs. search needs)
+    (λ c κs. search needs)
     (λ c. search needs)
     (λ c. search needs)
     returns
-    (λ c κs. search needs)
-    (λ c κs. search needs)
-    (λ c. search needs)
-    (λ c. search needs)
-    returns-2
     (λ c κs. search needs)
     (λ c κs. search needs)
     (λ c. search needs)
@@ -127,4 +106,4 @@ rebuild-chroma-spec =
     rebuild-both-requires
     (λ c. search needs)
     (λ c. search needs)
-    returns-3)
+    returns-2)

@@ -4,14 +4,14 @@ use mathlib.Core.List.{List}
 use Prim.Native.Nat.{ℕ}
 use borrow.Author.Needs.{needs}
 use Rattle.picture.specs.Whole.{withWhole}
-use Rattle.macroblock_chroma.proofs.Contents.{in-range}
+use Rattle.macroblock_chroma.proofs.Contents.{range-parts}
 use Rattle.macroblock_chroma.proofs.rebuild.store_one.Statement.{statement}
 use Rattle.macroblock_chroma.proofs.rebuild.store_one.Tie as tie
 
 rebuilt8-requires : tie.Need-rebuilt8-requires
 rebuilt8-requires c κs =
     let s = c .before .before .before in
-    let r = in-range _ _ (s .pre .1 .1) in
+    let r = range-parts _ _ (s .pre .1 .1) in
     ((s .pre .0 .1, s .pre .0 .2, s .pre .0 .3, search needs), (s .pre .1 .0, r .0, r .1))
 
 returns : tie.Need-returns

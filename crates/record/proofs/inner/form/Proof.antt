@@ -13,7 +13,7 @@ use Rattle.octets.specs.Numbers.{numberAt}
 use Rattle.record.specs.Records.{numberIn, lengthIn, firstIn}
 use Rattle.octets.specs.Sum.{sumHolds}
 use Rattle.record.specs.declared.Form.the-variants.{Fine}
-use Rattle.record.proofs.Forms.{cut-mark, mark-wrong, cut-rest, number-wrong, sum-wrong, fine}
+use Rattle.record.proofs.Forms.{cut-mark, mark-wrong, cut-rest, number-wrong, sum-wrong, form-fine}
 use Rattle.record.proofs.Marks.{length-known, length-there}
 use Rattle.record.proofs.Walks.{mark-drop, number-drop}
 use Rattle.record.proofs.inner.form.Statement.{statement}
@@ -179,7 +179,7 @@ returns-6 c =
     let E = M .before .before .before in
     let a = E .before .before .before .args in
     sym (
-    fine (a .expected) (drop (a .place) (a .file .now)) (two E) (some M) (room R) (numbered N) (sym (summed (c .before)) ∙ not-false _ (c .if5 .left))
+    form-fine (a .expected) (drop (a .place) (a .file .now)) (two E) (some M) (room R) (numbered N) (sym (summed (c .before)) ∙ not-false _ (c .if5 .left))
     ∙ ap Fine (sym (long-is (R .before)))
     )
 

@@ -10,7 +10,7 @@ returns : tie.Need-returns
 returns c = c .fours-length .ensures ∙ sym (length-named (c .before .before .before .args .mark) inFours fours (c .before .if1 .taken))
 
 returns-2 : tie.Need-returns-2
-returns-2 c = c .whole-length .ensures ∙ sym (length-named (c .before .before .before .before .before .args .mark) inWhole wholes (c .before .if2 .taken))
+returns-2 c = c .length-of .ensures ∙ sym (length-named (c .before .before .before .before .before .args .mark) inWhole wholes (c .before .if2 .taken))
 
 returns-3 : tie.Need-returns-3
 returns-3 c =

@@ -11,7 +11,7 @@ returns c =
     let W = c .before .before in
     let B = W .before .before .before in
     let s = B .before .before .before in
-    rw (B .signed-byte2 .ensures, B .before .signed-byte .ensures, toZ-ofZ (s .fits .cb), toZ-ofZ (s .fits .cr)) at (W .write-record .ensures)
+    (W .record-over .ensures .0, rw (B .signed-byte2 .ensures, B .before .signed-byte .ensures, toZ-ofZ (s .fits .cb), toZ-ofZ (s .fits .cr)) at (W .record-over .ensures .1))
 
 pub write-chroma-spec : {M : Type 1} → statement M
 write-chroma-spec =

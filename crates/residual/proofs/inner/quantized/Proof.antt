@@ -29,7 +29,7 @@ level-all-requires c κs =
     let qp = s .args .quantizer .qp in
     let many : length (m .multipliers .result) ≡ 16 = search needs in (
       subst (Each 65280) (sym (b .forward-block .ensures)) (each-less 9180 65280 (forward (s .args .residual)) (forward-each (s .args .residual) (s .pre .1)) tt),
-      many ∙ sym (sixteen b),
+      omega (arith, many, sixteen b),
       (λ k h. subst (λ (l : List ℕ). getD l k 0 ≤ 13107) (sym (m .multipliers .ensures)) (multipliers-small qp k (omega (arith, h, sixteen b)))),
       rw (c .third .ensures) (omega (arith, third-small (p .period .result) (omega arith))),
       omega arith,

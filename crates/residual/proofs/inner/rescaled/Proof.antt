@@ -22,7 +22,7 @@ scale-all-requires c κs =
     let scales = c .before .before in
     let s = scales .before in
     let many : length (scales .scales .result) ≡ 16 = search needs in (
-      many ∙ sym (sixteen s),
+      omega (arith, many, sixteen s),
       (λ k h. subst (λ (l : List ℕ). Scalable (getD (s .args .levels) k (pos 0)) (getD l k 0)) (sym (scales .scales .ensures))
           (scales-fit (s .args .quantizer .qp) (s .args .levels) k (s .pre .0) (s .pre .1) (omega (arith, h, sixteen s)))),
       omega arith,

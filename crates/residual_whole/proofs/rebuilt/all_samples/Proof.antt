@@ -14,9 +14,9 @@ use Rattle.whole.proofs.Bound.{argument}
 use Rattle.whole.proofs.Steps.{each-at}
 use Rattle.residual.specs.Rebuild.{rebuiltSamples, rescaledWithDc}
 use Rattle.residual_whole.specs.Area.{Sided, partIn, rasterPlace}
-use Rattle.residual_whole.specs.Rebuilt.{acIn, valuesIn, valueOf, blockSamples, wholeSamples, dcFits}
+use Rattle.residual_whole.specs.Rebuilt.{acIn, valuesIn, dcValueOf, blockSamples, wholeSamples, dcFits}
 use Rattle.residual_whole.proofs.Blocks.{square, Putting, putting-none, putting-more, putting-done}
-use Rattle.residual_whole.proofs.Samples.{length-values, values-fit, numbers-fit}
+use Rattle.residual_whole.proofs.Samples.{length-values, values-fit, ac-numbers-fit}
 use Rattle.residual_whole.proofs.rebuilt.all_samples.Statement.{statement}
 use Rattle.residual_whole.proofs.rebuilt.all_samples.Tie as tie
 
@@ -31,15 +31,15 @@ start c = c .before .before .before .before
 
 -- the DC value that is read at the block's place is that of the block, and in range
 value-read : (s : ℕ) → Sided s → (qp : ℕ) (levels values : List ℤ) (b place : ℕ) → values ≡ valuesIn s qp levels → place ≡ rasterPlace s b → dcFits s qp levels ≡ true
-    → (toZ w32 (ofZ w32 (getD values place (pos 0))) ≡ valueOf s qp levels b) × Within 32768 (toZ w32 (ofZ w32 (getD values place (pos 0))))
-unfolding valueOf
+    → (toZ w32 (ofZ w32 (getD values place (pos 0))) ≡ dcValueOf s qp levels b) × Within 32768 (toZ w32 (ofZ w32 (getD values place (pos 0))))
+unfolding dcValueOf
 value-read s side qp levels values b place is-v is-p fits =
     let w : Within 32768 (getD values place (pos 0)) = each-at 32768 values (subst (Each 32768) (sym is-v) (values-fit s side qp levels fits)) place in
     let e = argument w32 w tt .is in
     (e ∙ (λ i. getD (is-v i) (is-p i) (pos 0)), subst (Within 32768) (sym e) w)
 
 -- the samples that block b is given
-made : (s qp : ℕ) (prediction : List ℕ) (levels : List ℤ) (b : ℕ) {z : ℤ} {r : List ℕ} → z ≡ valueOf s qp levels b
+made : (s qp : ℕ) (prediction : List ℕ) (levels : List ℤ) (b : ℕ) {z : ℤ} {r : List ℕ} → z ≡ dcValueOf s qp levels b
     → r ≡ rebuiltSamples (partIn s b prediction) (rescaledWithDc qp z (acIn s levels b)) → r ≡ blockSamples s qp prediction levels b
 unfolding blockSamples
 made s qp prediction levels b is-z is-r = is-r ∙ (λ i. rebuiltSamples (partIn s b prediction) (rescaledWithDc qp (is-z i) (acIn s levels b)))
@@ -58,7 +58,7 @@ block-samples-requires c κs =
     let p = s .pre .0 in
     let f = s .pre .1 in (
       (p .0, p .1, p .2, p .3, f .0, T .loop-test .taken),
-      (value-read _ (p .0) _ _ (s .args .values .now) _ (P .place .result) (f .3) (P .place .ensures .0) (f .1) .1, numbers-fit _ (p .0) _ _ _ (f .2) (T .loop-test .taken)),
+      (value-read _ (p .0) _ _ (s .args .values .now) _ (P .place .result) (f .3) (P .place .ensures .0) (f .1) .1, ac-numbers-fit _ (p .0) _ _ _ (f .2) (T .loop-test .taken)),
     )
 
 put-requires : tie.Need-put-requires Inv-loop μ-loop

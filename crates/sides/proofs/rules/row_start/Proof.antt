@@ -8,7 +8,7 @@ use lib.ListN.{getD}
 use mir.Syntax.{w32}
 use Rattle.whole.specs.Bounds.{Within}
 use Rattle.whole.proofs.Bound.{argument, within, within-less}
-use Rattle.whole.proofs.Steps.{Code, inp, num, add, safe-of, exact-of, sized-of, at-most, bounded-at}
+use Rattle.whole.proofs.Steps.{Code, inp, num, add, safe-of, exact-of, size-of, at-most, bounded-at}
 use Rattle.sides.specs.Code.{riseOf}
 use Rattle.sides.proofs.rules.row_start.Statement.{statement}
 use Rattle.sides.proofs.rules.row_start.Tie as tie
@@ -44,7 +44,7 @@ returns c =
       e
           ∙ ap (λ (z : ℤ). s .args .a +ℤ z +ℤ pos 16) (c .rise .ensures .0)
           ∙ ap (λ (z : ℤ). s .args .a +ℤ riseOf (s .args .n) z (s .args .y) +ℤ pos 16) (argument w32 (s .pre .3) tt .is),
-      rw e (within-less (sized-of w32 (at-most bounds) (numbers c) (small c) all tt) tt),
+      rw e (within-less (size-of w32 (at-most bounds) (numbers c) (small c) all tt) tt),
     )
 
 pub row-start-spec : {M : Type 1} → statement M

@@ -9,7 +9,7 @@ use lib.Signed.{shrZ}
 use mir.Syntax.{w32}
 use Rattle.whole.specs.Bounds.{Within}
 use Rattle.whole.proofs.Bound.{within-less}
-use Rattle.whole.proofs.Steps.{Code, inp, num, add, mul, shr, safe-of, exact-of, sized-of, at-most, bounded-at}
+use Rattle.whole.proofs.Steps.{Code, inp, num, add, mul, shr, safe-of, exact-of, size-of, at-most, bounded-at}
 use Rattle.sides.specs.Plane.{tilt}
 use Rattle.sides.proofs.rules.tilt.Statement.{statement}
 use Rattle.sides.proofs.rules.tilt.Tie as tie
@@ -39,7 +39,7 @@ returns : tie.Need-returns
 unfolding tilt
 returns c =
     let e = exact-of w32 (at-most bounds) (numbers c) (small c) (shr rounded 6) tt in
-    let s = sized-of w32 (at-most bounds) (numbers c) (small c) (shr rounded 6) tt in
+    let s = size-of w32 (at-most bounds) (numbers c) (small c) (shr rounded 6) tt in
     rw e (ap₂ (λ (g h : ℤ). shrZ (g *ℤ h +ℤ pos 32) (2 ^ 6)) (c .before .gain .ensures .0) (c .slope .ensures .0), within-less s tt)
 
 pub tilt-spec : {M : Type 1} → statement M

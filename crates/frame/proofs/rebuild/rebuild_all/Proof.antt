@@ -1,4 +1,4 @@
--- `frame::rebuild::rebuild_both` meets its contract: a loop over macroblocks, each by its own records. Assumes nothing.
+-- `frame::rebuild::rebuild_all` meets its contract: a loop over macroblocks, each by its own records. Assumes nothing.
 use mathlib.Core.Path.{_≡_, sym, _∙_}
 use Prim.Native.Nat.{_-_, _*_, _≤_}
 use native.Mathlib.Omega.{arith}
@@ -15,8 +15,8 @@ use Rattle.plane.specs.Decode.{lumaNumber, lumaIn, chromaIn, formsTests, macrob
 use Rattle.plane.proofs.Entry.{records-passed}
 use Rattle.plane.proofs.Walking.{Walking, walking-none, next-is, next-inside}
 use Rattle.frame.specs.Decode.{cbFrom, crFrom}
-use Rattle.frame.proofs.rebuild.rebuild_both.Statement.{statement}
-use Rattle.frame.proofs.rebuild.rebuild_both.Tie as tie
+use Rattle.frame.proofs.rebuild.rebuild_all.Statement.{statement}
+use Rattle.frame.proofs.rebuild.rebuild_all.Tie as tie
 
 abbrev Inv-loop : tie.InvT-loop
 Inv-loop layout start file cb₀ cr₀ count place₀ m₀ cb cr place m =
@@ -87,8 +87,8 @@ returns c =
     let i = c .before .loop .inv in
     (folding-done _ _ _ (i .3) (c .loop-test .left), folding-done _ _ _ (i .4) (c .loop-test .left))
 
-pub rebuild-both-spec : {M : Type 1} → statement M
-rebuild-both-spec =
+pub rebuild-all-spec : {M : Type 1} → statement M
+rebuild-all-spec =
     tie.close
     (tie.spec
     Inv-loop

@@ -1,4 +1,4 @@
--- `residual_whole::coded::all_levels` meets its contract: a loop over the blocks. Assumes nothing.
+-- `residual_whole::coded::blocks_to_levels` meets its contract: a loop over the blocks. Assumes nothing.
 use mathlib.Core.Path.{sym, _∙_}
 use Prim.Native.Nat.{_-_}
 use native.Mathlib.Omega.{arith}
@@ -7,8 +7,8 @@ use mir.Syntax.{w32}
 use Rattle.whole.proofs.Bound.{argument}
 use Rattle.residual_whole.proofs.Blocks.{Square, square}
 use Rattle.residual_whole.proofs.Levels.{Coding, coding-none, coding-more, coding-dc, coding-ac}
-use Rattle.residual_whole.proofs.coded.all_levels.Statement.{statement}
-use Rattle.residual_whole.proofs.coded.all_levels.Tie as tie
+use Rattle.residual_whole.proofs.coded.blocks_to_levels.Statement.{statement}
+use Rattle.residual_whole.proofs.coded.blocks_to_levels.Tie as tie
 
 abbrev Inv-loop : tie.InvT-loop
 Inv-loop s quantizer prediction samples coefficients₀ levels₀ count b₀ coefficients levels b = Coding s (quantizer .qp) samples prediction levels₀ coefficients₀ levels coefficients b
@@ -26,13 +26,13 @@ start c = c .before .before .before .before
 loop-holds : tie.Need-loop-holds Inv-loop μ-loop
 loop-holds c = let s = c .before .before in coding-none _ _ _ _ _ _ (s .pre .0 .0) (s .pre .1 .1) (s .pre .1 .0)
 
-part-block-levels-end : tie.Need-part-block-levels-end Inv-loop μ-loop
-part-block-levels-end c =
+part-block-to-levels-end : tie.Need-part-block-to-levels-end Inv-loop μ-loop
+part-block-to-levels-end c =
     let T = c .before in
     omega (arith, T .before .loop .inv .room, T .loop-test .taken, known (start T) .levels)
 
-block-levels-requires : tie.Need-block-levels-requires Inv-loop μ-loop
-block-levels-requires c κs =
+block-to-levels-requires : tie.Need-block-to-levels-requires Inv-loop μ-loop
+block-to-levels-requires c κs =
     let T = c .before .before in
     let s = start T in
     let p = s .pre .0 in
@@ -45,8 +45,8 @@ loop-again c =
     let B = c .before in
     let P = B .before .before in
     let T = P .before in
-    let r = B .block-levels .ensures .0 in
-    coding-more _ _ _ _ _ _ (start T .pre .0 .0) (T .before .loop .inv) (T .loop-test .taken) (P .place .ensures .0) (r .0) (r .1) (argument w32 (r .1) tt .is) (B .block-levels .ensures .1) (c .levels .given .1)
+    let r = B .block-to-levels .ensures .0 in
+    coding-more _ _ _ _ _ _ (start T .pre .0 .0) (T .before .loop .inv) (T .loop-test .taken) (P .place .ensures .0) (r .0) (r .1) (argument w32 (r .1) tt .is) (B .block-to-levels .ensures .1) (c .levels .given .1)
 
 returns : tie.Need-returns Inv-loop μ-loop
 returns c =
@@ -54,8 +54,8 @@ returns c =
     let side = L .before .before .before .pre .0 .0 in
     (coding-dc _ _ _ _ _ _ side (L .loop .inv) (c .loop-test .left), coding-ac _ _ _ _ _ _ side (L .loop .inv) (c .loop-test .left))
 
-pub all-levels-spec : {M : Type 1} → statement M
-all-levels-spec =
+pub blocks-to-levels-spec : {M : Type 1} → statement M
+blocks-to-levels-spec =
     tie.close
     (tie.spec
     Inv-loop
@@ -69,8 +69,8 @@ all-levels-spec =
     (λ c. search needs)
     (λ c. search needs)
     (λ c. search needs)
-    part-block-levels-end
-    block-levels-requires
+    part-block-to-levels-end
+    block-to-levels-requires
     (λ c. search needs)
     (λ c. let P = c .before .before .before in omega (arith, P .place .ensures .1, P .before .before .loop .inv .stored .long, P .before .before .loop .inv .long))
     (λ c. search needs)

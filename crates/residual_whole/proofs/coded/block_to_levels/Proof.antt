@@ -1,4 +1,4 @@
--- `residual_whole::coded::block_levels` meets its contract. Assumes nothing.
+-- `residual_whole::coded::block_to_levels` meets its contract. Assumes nothing.
 use mathlib.Core.Path.{_≡_, sym, ap, subst, _∙_}
 use mathlib.Core.List.{List}
 use native.Mathlib.Omega.{arith}
@@ -15,8 +15,8 @@ use Rattle.residual.specs.Order.{inZigzag}
 use Rattle.residual.specs.Levels.{quantized}
 use Rattle.block.specs.Block.{residualOf}
 use Rattle.residual_whole.specs.Coded.{residualIn}
-use Rattle.residual_whole.proofs.coded.block_levels.Statement.{statement}
-use Rattle.residual_whole.proofs.coded.block_levels.Tie as tie
+use Rattle.residual_whole.proofs.coded.block_to_levels.Statement.{statement}
+use Rattle.residual_whole.proofs.coded.block_to_levels.Tie as tie
 
 forward-block-requires : tie.Need-forward-block-requires
 forward-block-requires c κs = each-less 255 32768 (c .lacking .result) (c .lacking .ensures .1) tt
@@ -44,8 +44,8 @@ returns c =
       F .behind-first .ensures ∙ ap (drop 1) (Z .in-zigzag .ensures ∙ ap inZigzag (Q .quantized .ensures ∙ ap (quantized (s .args .quantizer .qp)) (lacks X))),
     )
 
-pub block-levels-spec : {M : Type 1} → statement M
-block-levels-spec =
+pub block-to-levels-spec : {M : Type 1} → statement M
+block-to-levels-spec =
     tie.close
     (tie.spec
     (λ c κs. search needs)

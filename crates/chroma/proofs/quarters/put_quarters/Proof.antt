@@ -1,11 +1,11 @@
--- `chroma::quarters::put_means` meets its contract: two loops that store the quarter's mean. Assumes nothing.
+-- `chroma::quarters::put_quarters` meets its contract: two loops that store the quarter's mean. Assumes nothing.
 use Prim.Native.Nat.{ℕ, _-_, _/_}
 use native.Mathlib.Omega.{arith}
 use borrow.Author.Needs.{needs}
 use Rattle.lists.proofs.Tab.{Squaring, squaring-none, squaring-more, squaring-row, squaring-done}
 use Rattle.chroma.specs.Code.{quarterAt}
-use Rattle.chroma.proofs.quarters.put_means.Statement.{statement}
-use Rattle.chroma.proofs.quarters.put_means.Tie as tie
+use Rattle.chroma.proofs.quarters.put_quarters.Statement.{statement}
+use Rattle.chroma.proofs.quarters.put_quarters.Tie as tie
 
 abbrev Inv-loop2 : tie.InvT-loop2
 Inv-loop2 out₀ means y x₀ out x = Squaring 8 (λ (u v : ℕ). quarterAt means (u / 4) (v / 4)) out y x
@@ -19,8 +19,8 @@ Inv-loop out₀ means y₀ out y = Squaring 8 (λ (u v : ℕ). quarterAt means (
 abbrev μ-loop : tie.MeasureT-loop
 μ-loop out₀ means y₀ out y = 8 - y
 
-pub put-means-spec : {M : Type 1} → statement M
-put-means-spec =
+pub put-quarters-spec : {M : Type 1} → statement M
+put-quarters-spec =
     tie.close
     (tie.spec Inv-loop2 μ-loop2 Inv-loop μ-loop
     (λ c. squaring-none _ _ (omega arith))

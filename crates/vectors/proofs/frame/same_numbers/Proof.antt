@@ -1,8 +1,8 @@
--- `vectors::recording::same_numbers` is safe and ends. Assumes nothing.
+-- `vectors::frame::same_numbers` is safe and ends. Assumes nothing.
 use Prim.Native.Nat.{_≤_, _-_}
 use borrow.Author.Needs.{needs}
-use Rattle.vectors.proofs.recording.same_numbers.Statement.{statement}
-use Rattle.vectors.proofs.recording.same_numbers.Tie as tie
+use Rattle.vectors.proofs.frame.same_numbers.Statement.{statement}
+use Rattle.vectors.proofs.frame.same_numbers.Tie as tie
 
 abbrev Inv-loop : tie.InvT-loop
 Inv-loop a b k₀ k = k ≤ 17

@@ -1,4 +1,4 @@
--- `record::inner::all_levels` meets its contract: one loop over the levels. Assumes nothing.
+-- `record::inner::kind_levels` meets its contract: one loop over the levels. Assumes nothing.
 use mathlib.Core.Path.{_∙_}
 use Prim.Native.Nat.{_+_, _-_, _*_}
 use native.Mathlib.Omega.{arith}
@@ -8,8 +8,8 @@ use mir.ValLaws.{toZ-ofZ}
 use Rattle.lists.proofs.Tab.{Filling, filling-none, filling-more, filling-done}
 use Rattle.octets.specs.Numbers.{levelAt}
 use Rattle.record.specs.Records.{allLevelsIn}
-use Rattle.record.proofs.inner.all_levels.Statement.{statement}
-use Rattle.record.proofs.inner.all_levels.Tie as tie
+use Rattle.record.proofs.inner.kind_levels.Statement.{statement}
+use Rattle.record.proofs.inner.kind_levels.Tie as tie
 
 abbrev Inv-loop : tie.InvT-loop
 Inv-loop part out₀ front i₀ i-end out i = Filling i-end (λ j. levelAt (front + 2 * j) part) out i
@@ -45,8 +45,8 @@ returns : tie.Need-returns Inv-loop μ-loop
 unfolding allLevelsIn
 returns c = filling-done _ _ (c .before .loop .inv) (omega arith)
 
-pub all-levels-spec : {M : Type 1} → statement M
-all-levels-spec =
+pub kind-levels-spec : {M : Type 1} → statement M
+kind-levels-spec =
     tie.close
     (tie.spec
     Inv-loop
