@@ -1,4 +1,4 @@
-//! Links the libraries that `run` has put into the folder BENCH_LIBRARIES: the proved one, and the study's where it is there.
+//! Links the libraries in the folder BENCH_LIBRARIES, which `run` and the gate name: the proved one, and the study's where it is there.
 
 use std::env;
 use std::path::Path;

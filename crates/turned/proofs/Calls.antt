@@ -1,5 +1,6 @@
 -- The claims of any two calls of the exported functions.
 --     fb-forward-turns, fb-levels-turn, fb-predict-turns
+--     done-word     the low byte of a word is 0 where the tests pass
 -- Assumes nothing.
 use mathlib.Core.Path.{_≡_, refl, sym, ap, ap₂, _∙_}
 use mathlib.Core.Bool.{false≢true}
@@ -35,7 +36,7 @@ use Rattle.turned.proofs.Coefficients.{coefficients-turn, levels-turn}
 use Rattle.turned.proofs.Prediction.{permitted-turns, prediction-turns}
 
 -- the low byte of a word is 0 where the tests pass
-done-word : (ts : List (Test Refusal)) (value : ℕ) {w : ℕ} → w ≡ wordOf (chain ts) value → chain ts ≡ pass → w % 256 ≡ 0
+pub done-word : (ts : List (Test Refusal)) (value : ℕ) {w : ℕ} → w ≡ wordOf (chain ts) value → chain ts ≡ pass → w % 256 ≡ 0
 done-word ts value e v = ap (λ (u : ℕ). u % 256) e ∙ done-exactly-if ts value .1 (chain-exactly-if ts .passes .0 v)
 
 -- ---- residuals in range are so turned: the last test of `forward` and `levels`
