@@ -259,6 +259,12 @@ static uint64_t decode_picture(void) {
     return fb_decode_picture(file.at, file.length, luma.at, luma.length, cb.at, cb.length, cr.at, cr.length);
 }
 
+static uint64_t inspect(void) {
+    struct bytes file = bytes();
+    struct bytes theirs = bytes();
+    return fb_inspect(file.at, file.length, theirs.at, theirs.length);
+}
+
 static uint64_t quality_sheet(void) {
     size_t width = (size_t)number();
     size_t height = (size_t)number();
@@ -274,7 +280,7 @@ static uint64_t quality_sheet(void) {
 static uint64_t (*const functions[])(void) = {
     predict,        choose,           forward,          levels,           rebuild,    rebuild_with_dc,   luma_dc_levels,
     luma_dc_values, chroma_dc_levels, chroma_dc_values, chroma_quantizer, code_block, promised_distance, code_plane,
-    read_head,      decode_plane,     quality_sheet,    code_picture,     decode_picture,
+    read_head,      decode_plane,     quality_sheet,    code_picture,     decode_picture, inspect,
 };
 
 int main(void) {

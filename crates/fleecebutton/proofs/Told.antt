@@ -16,7 +16,7 @@ use Rattle.lists.specs.Chain.{Test, Verdict, pass, stop, chain, AllPass, Refuse
 use Rattle.lists.proofs.Chain.{chain-exactly-if}
 use Rattle.refusal.specs.Number.{number, numberOf, placeOf}
 use Rattle.refusal.specs.declared.Refusal.{Refusal}
-use Rattle.refusal.specs.declared.Refusal.the-variants.{Length, Size, Flags, Quantizer, Mode, Residual, Level, Range, Form, Mark, Number, Sum}
+use Rattle.refusal.specs.declared.Refusal.the-variants.{Length, Size, Flags, Quantizer, Mode, Residual, Level, Range, Form, Mark, Number, Sum, Differs}
 use Rattle.refusal.proofs.Same.{seven-unused}
 use Rattle.fleecebutton.specs.Word.{places, wordOf}
 
@@ -34,6 +34,7 @@ number-small (Form k) = (omega arith, omega arith)
 number-small (Mark k) = (omega arith, omega arith)
 number-small (Number k) = (omega arith, omega arith)
 number-small (Sum k) = (omega arith, omega arith)
+number-small (Differs k) = (omega arith, omega arith)
 
 pub number-told : (v : Verdict Refusal) (value : ℕ) → wordOf v value % 256 ≡ number v
 number-told pass value = omega arith

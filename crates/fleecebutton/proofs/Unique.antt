@@ -41,6 +41,8 @@ use Rattle.fleecebutton.proofs.fb_code_picture.Kinds as fb-code-picture
 use Rattle.fleecebutton.proofs.fb_code_picture.Reads as fb-code-picture-reads
 use Rattle.fleecebutton.proofs.fb_decode_picture.Kinds as fb-decode-picture
 use Rattle.fleecebutton.proofs.fb_decode_picture.Reads as fb-decode-picture-reads
+use Rattle.fleecebutton.proofs.fb_inspect.Kinds as fb-inspect
+use Rattle.fleecebutton.proofs.fb_inspect.Reads as fb-inspect-reads
 use Rattle.fleecebutton.proofs.fb_decode_plane.Kinds as fb-decode-plane
 use Rattle.fleecebutton.proofs.fb_decode_plane.Reads as fb-decode-plane-reads
 use Rattle.fleecebutton.proofs.fb_quality_sheet.Kinds as fb-quality-sheet
@@ -95,6 +97,9 @@ fb-code-plane-unique κs a x y e f p q =
     let file = p .filed ∙ sym (q .filed) in
     let plane = p .stored ∙ sym (q .stored) in
     (p .word ∙ sym (q .word), λ i. (file i, plane i))
+
+pub fb-inspect-unique : Unique 2 fb-inspect.ps fb-inspect.r fb-inspect-reads.Learnt (Unit {0}) (λ κs e. tt)
+fb-inspect-unique κs a x y e f p q = (p ∙ sym q, refl)
 
 pub fb-read-head-unique : Unique 1 fb-read-head.ps fb-read-head.r fb-read-head-reads.Learnt (Unit {0}) (λ κs e. tt)
 fb-read-head-unique κs a x y e f p q = (p ∙ sym q, refl)

@@ -31,6 +31,7 @@ use Rattle.plane.specs.Code.{inSlices, codePlaneTests, codedFile, codedPlane}
 use Rattle.plane.specs.Decode.{layoutIn, decodeTests, decodedPlane}
 use Rattle.frame.specs.Code.{codePictureTests, codedFrame, codedBoth}
 use Rattle.frame.specs.Decode.{decodePictureTests, cbOf, crOf, colourNumber}
+use Rattle.inspection.specs.Inspect.{inspectTests}
 use Rattle.sheet.specs.Entry.{writeTests}
 use Rattle.sheet.specs.Means.{givenOf, areaOf}
 use Rattle.fleecebutton.specs.Word.{wordOf, choiceValue, headValue, sheetValue, Sends}
@@ -117,6 +118,9 @@ pub record DecodePictureSends (file luma cb cr : List ℕ) (w : ℕ) (luma′ cb
   pub lumas : luma′ ≡ written (chain (decodePictureTests file luma cb cr)) (decodedPlane file) luma
   pub cbs : cb′ ≡ written (chain (decodePictureTests file luma cb cr)) (cbOf (layoutIn file) (longAt file) file cb) cb
   pub crs : cr′ ≡ written (chain (decodePictureTests file luma cb cr)) (crOf (layoutIn file) (longAt file) file cr) cr
+
+abbrev pub InspectSends : (file theirs : List ℕ) (w : ℕ) → Type 0
+InspectSends file theirs w = w ≡ wordOf (chain (inspectTests file theirs)) 0
 
 abbrev pub QualitySheetSends : (width height : ℕ) (original rebuilt map : List ℕ) (before : List Float) (w : ℕ) (after : List Float) → Type 0
 QualitySheetSends width height original rebuilt map before w after =

@@ -18,6 +18,7 @@ ghost use Rattle.fleecebutton.specs.Sends.{
   ReadHeadSends,
   DecodePlaneSends,
   DecodePictureSends,
+  InspectSends,
   QualitySheetSends,
 };
 
@@ -225,6 +226,14 @@ pub extern "C" fn fb_decode_picture(
     ensures { λ r. ⌜ DecodePictureSends (now (file .entry)) (now (luma .entry)) (now (cb .entry)) (now (cr .entry)) r (now (luma .exit)) (now (cb .exit)) (now (cr .exit)) ⌝ }
 {
     word::of_decoded(frame::decode_picture(file, luma, cb, cr))
+}
+
+// Whether the decoder accepts a file and its luma plane is theirs: success exactly then. Nothing is written.
+#[no_mangle]
+pub extern "C" fn fb_inspect(file: &[u8], theirs: &[u8]) -> u64
+    ensures { λ r. ⌜ InspectSends (now (file .entry)) (now (theirs .entry)) r ⌝ }
+{
+    word::of_answer(inspection::inspect(file, theirs))
 }
 
 // The sheet of an original plane, a rebuilt plane and a map of macroblocks present: three means, in the area. The word's value is 1 where there

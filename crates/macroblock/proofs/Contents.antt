@@ -2,7 +2,7 @@
 --     kind-long                   either kind has a mark
 --     tests-whole, tests-fours, rebuilt-whole, rebuilt-fours     the tests and the step of a record, by its kind
 --     content-legal               a record whose content is fine has a legal QP
---     content-not-broken          no test of a record's content says that the file is broken
+--     content-kind                the refusals of a record's content are those of content
 --     qp-record-from              the coder's record says the QP
 --     content-own, step-again     of the coder's record: its content is fine; its macroblock is rebuilt as the coder rebuilt it
 -- Assumes nothing.
@@ -14,7 +14,8 @@ use native.Mathlib.Omega.{arith}
 use Rattle.lists.specs.Bytes.{Bytes}
 use Rattle.lists.specs.Chain.{pass, chain}
 use Rattle.lists.proofs.Chain.{chain-exactly-if}
-use Rattle.refusal.proofs.Faults.{noneBroken}
+use Rattle.refusal.specs.Faults.{isContent}
+use Rattle.refusal.proofs.Faults.{allOf}
 use Rattle.quantizer.specs.Range.{highest}
 use Rattle.quantizer.proofs.Range.{number-legal}
 use Rattle.record.specs.Kinds.{inFours, inWhole, lengthOf}
@@ -66,12 +67,12 @@ module _ (l : Layout) (m : ℕ) (part : List ℕ) where
       by true q = number-legal (16 * m) (qpIn part) (chain-exactly-if (contentTests16 l m part) .passes .0 (sym (ap chain (tests-whole q)) ∙ e) .0)
       by false q = number-legal (16 * m) (qpIn part) (chain-exactly-if (contentTests4 l m part) .passes .0 (sym (ap chain (tests-fours q)) ∙ e) .0)
 
-  -- none of its refusals says that the file is broken
-  pub content-not-broken : noneBroken (contentTests l m part) ≡ true
+  -- its refusals are those of content
+  pub content-kind : allOf isContent (contentTests l m part) ≡ true
   unfolding contentTests
-  content-not-broken = by (isWhole part)
+  content-kind = by (isWhole part)
     where
-      by : (b : Bool) → noneBroken (cond b (contentTests16 l m part) (contentTests4 l m part)) ≡ true
+      by : (b : Bool) → allOf isContent (cond b (contentTests16 l m part) (contentTests4 l m part)) ≡ true
       by true = refl
       by false = refl
 

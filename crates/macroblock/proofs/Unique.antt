@@ -10,6 +10,8 @@ use Rattle.unique.specs.Unique.{Unique}
 use Rattle.refusal.proofs.Same.{same-answer}
 use Rattle.macroblock.proofs.inner.test_macroblock.Kinds as test-macroblock
 use Rattle.macroblock.proofs.inner.test_macroblock.Reads as test-macroblock-reads
+use Rattle.macroblock.proofs.inner.rebuild_beside.Kinds as rebuild-beside
+use Rattle.macroblock.proofs.inner.rebuild_beside.Reads as rebuild-beside-reads
 use Rattle.macroblock.proofs.inner.rebuild_macroblock.Kinds as rebuild-macroblock
 use Rattle.macroblock.proofs.inner.rebuild_macroblock.Reads as rebuild-macroblock-reads
 use Rattle.macroblock.proofs.inner.code_macroblock.Kinds as code-macroblock
@@ -19,6 +21,9 @@ use Rattle.macroblock.proofs.inner.winner.Reads as winner-reads
 
 pub test-macroblock-unique : Unique 1 test-macroblock.ps test-macroblock.r test-macroblock-reads.Learnt (Unit {0}) (λ κs e. tt)
 test-macroblock-unique κs a x y e f p q = (same-answer x y (p ∙ sym q), refl)
+
+pub rebuild-beside-unique : Unique 3 rebuild-beside.ps rebuild-beside.r rebuild-beside-reads.Learnt (List ℕ) (λ κs e. now (e .1 .1 .1 .1 .0))
+rebuild-beside-unique κs a x y e f p q = (refl, p ∙ sym q)
 
 pub rebuild-macroblock-unique : Unique 2 rebuild-macroblock.ps rebuild-macroblock.r rebuild-macroblock-reads.Learnt (List ℕ) (λ κs e. now (e .1 .1 .1 .0))
 rebuild-macroblock-unique κs a x y e f p q = (refl, p ∙ sym q)

@@ -1,4 +1,4 @@
-// What a picture asks of one macroblock: whether its record's content is fine, its step by that record, and its record and step when coded.
+// What a picture asks of one macroblock: whether its record's content is fine, its samples and its step by that record, and its record and step when coded.
 ghost use mathlib.Core.Path.{_≡_};
 ghost use Prim.Native.Nat.{_≤_};
 ghost use lib.ListN.{length};
@@ -9,6 +9,7 @@ ghost use Rattle.quantizer.specs.Range.{highest};
 ghost use Rattle.record.specs.Kinds.{inFours, lengthOf};
 ghost use Rattle.picture.specs.Order.{Among};
 ghost use Rattle.picture.specs.Plane.{planeLength};
+ghost use Rattle.picture.specs.Whole.{wholeOf};
 ghost use Rattle.macroblock.specs.Code.{recordFrom, codedStep};
 ghost use Rattle.macroblock.specs.Content.{kindBy, contentTests};
 ghost use Rattle.macroblock.specs.Rebuild.{rebuiltStep};
@@ -29,17 +30,28 @@ pub fn test_macroblock(layout: Layout, m: usize, part: &[u8]) -> Answer
     }
 }
 
-// Macroblock m by a record whose content is fine.
+// The 256 samples of macroblock m by a record whose content is fine, beside a plane that is only read.
+pub fn rebuild_beside(layout: Layout, m: usize, part: &[u8], plane: &[u8], own: &mut [u8])
+    requires { ⌜ (Among layout m 0) × (length (now part) ≡ lengthOf (kindBy (now part))) × (length (now plane) ≡ planeLength 16 layout) × (length (now own) ≡ 256) ⌝ }
+    requires { ⌜ chain (contentTests layout m (now part)) ≡ pass ⌝ }
+    ensures { λ _. ⌜ now (own .exit) ≡ wholeOf 16 layout m (rebuiltStep layout m (now (part .entry)) (now (plane .entry))) ⌝ }
+{
+    if record::inner::is_whole(part) {
+        macroblock16::inner::rebuild_beside16(layout, m, part, plane, own);
+    } else {
+        macroblock4::inner::rebuild_beside4(layout, m, part, plane, own);
+    }
+}
+
+// Macroblock m by a record whose content is fine: its samples, and then these in their places.
 pub fn rebuild_macroblock(layout: Layout, m: usize, part: &[u8], plane: &mut [u8])
     requires { ⌜ (Among layout m 0) × (length (now part) ≡ lengthOf (kindBy (now part))) × (length (now plane) ≡ planeLength 16 layout) ⌝ }
     requires { ⌜ chain (contentTests layout m (now part)) ≡ pass ⌝ }
     ensures { λ _. ⌜ now (plane .exit) ≡ rebuiltStep layout m (now (part .entry)) (now (plane .entry)) ⌝ }
 {
-    if record::inner::is_whole(part) {
-        macroblock16::inner::rebuild_macroblock16(layout, m, part, plane);
-    } else {
-        macroblock4::inner::rebuild_macroblock4(layout, m, part, plane);
-    }
+    let mut own = [0u8; 256];
+    rebuild_beside(layout, m, part, plane, &mut own);
+    picture::inner::store_whole(plane, layout, 16, m, &own);
 }
 
 // The part of the winning area, uncopied: that of 16x16 exactly if its SAD is below the sum of the sixteen others.

@@ -11,8 +11,8 @@ use Rattle.macroblock16.proofs.inner.test_macroblock16.Kinds as test-ma
 use Rattle.macroblock16.proofs.inner.test_macroblock16.Reads as test-macroblock16-reads
 use Rattle.macroblock16.proofs.inner.store_macroblock16.Kinds as store-macroblock16
 use Rattle.macroblock16.proofs.inner.store_macroblock16.Reads as store-macroblock16-reads
-use Rattle.macroblock16.proofs.inner.rebuild_macroblock16.Kinds as rebuild-macroblock16
-use Rattle.macroblock16.proofs.inner.rebuild_macroblock16.Reads as rebuild-macroblock16-reads
+use Rattle.macroblock16.proofs.inner.rebuild_beside16.Kinds as rebuild-beside16
+use Rattle.macroblock16.proofs.inner.rebuild_beside16.Reads as rebuild-beside16-reads
 use Rattle.macroblock16.proofs.inner.code_candidate16.Kinds as code-candidate16
 use Rattle.macroblock16.proofs.inner.code_candidate16.Reads as code-candidate16-reads
 
@@ -22,8 +22,8 @@ test-macroblock16-unique κs a x y e f p q = (same-answer x y (p ∙ sym q), ref
 pub store-macroblock16-unique : Unique 3 store-macroblock16.ps store-macroblock16.r store-macroblock16-reads.Learnt (List ℕ) (λ κs e. now (e .1 .1 .1 .1 .1 .0))
 store-macroblock16-unique κs a x y e f p q = (refl, p ∙ sym q)
 
-pub rebuild-macroblock16-unique : Unique 2 rebuild-macroblock16.ps rebuild-macroblock16.r rebuild-macroblock16-reads.Learnt (List ℕ) (λ κs e. now (e .1 .1 .1 .0))
-rebuild-macroblock16-unique κs a x y e f p q = (refl, p ∙ sym q)
+pub rebuild-beside16-unique : Unique 3 rebuild-beside16.ps rebuild-beside16.r rebuild-beside16-reads.Learnt (List ℕ) (λ κs e. now (e .1 .1 .1 .1 .0))
+rebuild-beside16-unique κs a x y e f p q = (refl, p ∙ sym q)
 
 -- the levels and the prediction at exit
 pub code-candidate16-unique : Unique 4 code-candidate16.ps code-candidate16.r code-candidate16-reads.Learnt (List ℤ × List ℕ) (λ κs e. (now (e .1 .1 .1 .1 .1 .0), now (e .1 .1 .1 .1 .1 .1 .0)))

@@ -11,7 +11,7 @@ ghost use Rattle.residual_whole.specs.Rebuilt.{wholeSamples, dcFits, firstAc};
 ghost use Rattle.record.specs.Kinds.{inWhole, lengthOf};
 ghost use Rattle.picture.specs.Order.{Among};
 ghost use Rattle.picture.specs.Plane.{planeLength};
-ghost use Rattle.picture.specs.Whole.{withWhole};
+ghost use Rattle.picture.specs.Whole.{wholeOf, withWhole};
 ghost use Rattle.macroblock16.specs.Code.{Candidate};
 ghost use Rattle.macroblock16.specs.Content.{contentTests16};
 ghost use Rattle.macroblock16.specs.Rebuild.{rebuiltStep16};
@@ -64,11 +64,11 @@ pub fn store_macroblock16(
     picture::inner::store_whole(plane, layout, 16, m, &samples);
 }
 
-// Macroblock m by a record whose content is fine.
-pub fn rebuild_macroblock16(layout: Layout, m: usize, part: &[u8], plane: &mut [u8])
-    requires { ⌜ (Among layout m 0) × (length (now part) ≡ lengthOf inWhole) × (length (now plane) ≡ planeLength 16 layout) ⌝ }
+// The 256 samples of macroblock m by a record whose content is fine, beside a plane that is only read.
+pub fn rebuild_beside16(layout: Layout, m: usize, part: &[u8], plane: &[u8], own: &mut [u8])
+    requires { ⌜ (Among layout m 0) × (length (now part) ≡ lengthOf inWhole) × (length (now plane) ≡ planeLength 16 layout) × (length (now own) ≡ 256) ⌝ }
     requires { ⌜ chain (contentTests16 layout m (now part)) ≡ pass ⌝ }
-    ensures { λ _. ⌜ now (plane .exit) ≡ rebuiltStep16 layout m (now (part .entry)) (now (plane .entry)) ⌝ }
+    ensures { λ _. ⌜ now (own .exit) ≡ wholeOf 16 layout m (rebuiltStep16 layout m (now (part .entry)) (now (plane .entry))) ⌝ }
 {
     let Built::Legal(quantizer) = Quantizer::new(record::inner::qp(part)) else {
         return;
@@ -81,7 +81,7 @@ pub fn rebuild_macroblock16(layout: Layout, m: usize, part: &[u8], plane: &mut [
     sides::inner::fill(&neighbours, flags, mode, &mut prediction);
     let mut levels = [0i32; 256];
     record::inner::whole_levels(part, &mut levels);
-    store_macroblock16(layout, m, quantizer, &prediction, &levels, plane);
+    residual_whole::inner::rebuilt16(quantizer, &prediction, &levels, own);
 }
 
 // The candidate of macroblock m beside what has been rebuilt: its levels and its prediction; answers its mode and its SAD.

@@ -1,32 +1,47 @@
--- A block's turn, of what the code has computed, and a macroblock's step.
---     block-made     a block's turn
---     step-made      the turns of its blocks, one after the other, are the macroblock's step
+-- A block's turn among its macroblock's samples, of what the code has computed, and the samples of a macroblock.
+--     block-made     a block's turn, in the plane with the samples in their places
+--     samples-made   the turns of its blocks, one after the other, leave the samples of the macroblock's step
 -- Assumes nothing.
-use mathlib.Core.Path.{_≡_, _∙_}
+use mathlib.Core.Path.{_≡_, sym, ap, _∙_}
 use mathlib.Core.List.{List}
-use Prim.Native.Nat.{ℕ}
+use Prim.Native.Nat.{ℕ, _*_}
+use native.Mathlib.Omega.{arith}
 use lib.IntN.{ℤ}
+use lib.ListN.{length}
 use Rattle.lists.specs.Fold.{fold}
 use Rattle.intra4.specs.Samples.{mask}
 use Rattle.intra4.specs.Rules as rules
 use Rattle.residual.specs.Rebuild.{rebuiltSamples}
 use Rattle.record.specs.Records.{modeIn}
 use Rattle.picture.specs.declared.Layout.{Layout}
-use Rattle.picture.specs.Order.{blockCount}
-use Rattle.picture.specs.Plane.{withBlock, gathered, turn}
+use Rattle.picture.specs.Order.{Among, columnIn, rowIn, blockCount}
+use Rattle.picture.specs.Plane.{planeLength, stored, withBlock, gathered, turn}
 use Rattle.picture.specs.Presence.{flagsOf}
+use Rattle.picture.specs.Whole.{wholeOf, withWhole}
+use Rattle.picture.proofs.Over.{block-over, step-beside}
 use Rattle.picture.proofs.Start.{turns-four}
+use Rattle.picture.proofs.Whole.{whole-back}
 use Rattle.macroblock4.specs.Content.{rescaledIn}
 use Rattle.macroblock4.specs.Rebuild.{blockFrom, rebuiltStep4}
+use Rattle.macroblock4.proofs.Looks.{rebuilt-step4}
 
-pub block-made : (l : Layout) (part : List ℕ) (m b : ℕ) (plane : List ℕ) {flags mode : ℕ} {n p s after : List ℕ} {d : List ℤ}
-    → flags ≡ flagsOf 4 l m b → n ≡ gathered 4 l m b plane → mode ≡ modeIn b part
+pub block-made : {l : Layout} {m b : ℕ} → Among l m b → (part own plane : List ℕ) → length own ≡ 256 → length plane ≡ planeLength 16 l
+    → {flags mode : ℕ} {n p s after : List ℕ} {d : List ℤ}
+    → flags ≡ flagsOf 4 l m b → n ≡ gathered 4 l m b (withWhole 16 l m own plane) → mode ≡ modeIn b part
     → p ≡ rules.samplesOf (rules.predicted (mask n flags) mode) → d ≡ rescaledIn part b → s ≡ rebuiltSamples p d
-    → after ≡ withBlock 4 l m b s plane
-    → after ≡ turn 4 (blockFrom l part) l m b plane
+    → after ≡ stored 4 16 (4 * columnIn b) (4 * rowIn b) s own
+    → withWhole 16 l m after plane ≡ turn 4 (blockFrom l part) l m b (withWhole 16 l m own plane)
 unfolding turn blockFrom
-block-made l part m b plane ef en em ep ed es ea = rw (ea, es, ep, ed, ef, en, em)
+block-made {l} {m} {b} a part own plane size long {s = s} ef en em ep ed es ea =
+    ap (λ (samples : List ℕ). withWhole 16 l m samples plane) ea
+    ∙ block-over a s own plane size long
+    ∙ ap (λ (block : List ℕ). withBlock 4 l m b block (withWhole 16 l m own plane)) (rw (es, ep, ed, ef, en, em))
 
-pub step-made : (l : Layout) (part : List ℕ) (m : ℕ) (plane : List ℕ) {after : List ℕ} → after ≡ fold 16 (turn 4 (blockFrom l part) l m) plane → after ≡ rebuiltStep4 l m part plane
+pub samples-made : {l : Layout} {m : ℕ} → Among l m 0 → (part own plane : List ℕ) → length plane ≡ planeLength 16 l → {after : List ℕ} → length after ≡ 256
+    → withWhole 16 l m after plane ≡ fold 16 (turn 4 (blockFrom l part) l m) (withWhole 16 l m own plane)
+    → after ≡ wholeOf 16 l m (rebuiltStep4 l m part plane)
 unfolding rebuiltStep4 blockCount
-step-made l part m plane e = e ∙ turns-four (blockFrom l part) l m 16 plane
+samples-made {l} {m} a part own plane long {after} size e =
+    sym (whole-back 16 (omega arith) l (a .sound .some) m (a .macroblock) after plane size long)
+    ∙ ap (wholeOf 16 l m) (e ∙ turns-four (blockFrom l part) l m 16 (withWhole 16 l m own plane))
+    ∙ step-beside 16 (omega arith) l (a .sound .some) m (a .macroblock) (rebuilt-step4 l (a .sound .some) m (a .macroblock) part) plane long own

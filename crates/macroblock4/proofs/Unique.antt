@@ -8,16 +8,16 @@ use Rattle.unique.specs.Unique.{Unique}
 use Rattle.refusal.proofs.Same.{same-answer}
 use Rattle.macroblock4.proofs.inner.test_macroblock4.Kinds as test-macroblock4
 use Rattle.macroblock4.proofs.inner.test_macroblock4.Reads as test-macroblock4-reads
-use Rattle.macroblock4.proofs.inner.rebuild_macroblock4.Kinds as rebuild-macroblock4
-use Rattle.macroblock4.proofs.inner.rebuild_macroblock4.Reads as rebuild-macroblock4-reads
+use Rattle.macroblock4.proofs.inner.rebuild_beside4.Kinds as rebuild-beside4
+use Rattle.macroblock4.proofs.inner.rebuild_beside4.Reads as rebuild-beside4-reads
 use Rattle.macroblock4.proofs.inner.code_candidate4.Kinds as code-candidate4
 use Rattle.macroblock4.proofs.inner.code_candidate4.Reads as code-candidate4-reads
 
 pub test-macroblock4-unique : Unique 1 test-macroblock4.ps test-macroblock4.r test-macroblock4-reads.Learnt (Unit {0}) (λ κs e. tt)
 test-macroblock4-unique κs a x y e f p q = (same-answer x y (p ∙ sym q), refl)
 
-pub rebuild-macroblock4-unique : Unique 2 rebuild-macroblock4.ps rebuild-macroblock4.r rebuild-macroblock4-reads.Learnt (List ℕ) (λ κs e. now (e .1 .1 .1 .0))
-rebuild-macroblock4-unique κs a x y e f p q = (refl, p ∙ sym q)
+pub rebuild-beside4-unique : Unique 3 rebuild-beside4.ps rebuild-beside4.r rebuild-beside4-reads.Learnt (List ℕ) (λ κs e. now (e .1 .1 .1 .1 .0))
+rebuild-beside4-unique κs a x y e f p q = (refl, p ∙ sym q)
 
 -- what was lent of the levels and the rebuilt plane, at exit
 pub code-candidate4-unique : Unique 3 code-candidate4.ps code-candidate4.r code-candidate4-reads.Learnt (List ℤ × List ℕ) (λ κs e. (now (e .1 .1 .1 .1 .0), now (e .1 .1 .1 .1 .1 .0)))

@@ -1,4 +1,4 @@
-// What is asked of a macroblock of sixteen blocks: whether its record's content is fine, its step by that record, and what it is when coded.
+// What is asked of a macroblock of sixteen blocks: whether its record's content is fine, its samples by that record, and what it is when coded.
 ghost use mathlib.Core.Path.{_≡_};
 ghost use Prim.Native.Nat.{_≤_};
 ghost use lib.ListN.{length};
@@ -8,6 +8,7 @@ ghost use Rattle.quantizer.specs.Range.{highest};
 ghost use Rattle.record.specs.Kinds.{inFours, lengthOf};
 ghost use Rattle.picture.specs.Order.{Among};
 ghost use Rattle.picture.specs.Plane.{planeLength};
+ghost use Rattle.picture.specs.Whole.{wholeOf};
 ghost use Rattle.macroblock4.specs.Code.{modesFrom, sadsFrom, blocksFrom, codedStep4};
 ghost use Rattle.macroblock4.specs.Content.{contentTests4};
 ghost use Rattle.macroblock4.specs.Rebuild.{rebuiltStep4};
@@ -39,17 +40,17 @@ pub fn test_macroblock4(layout: Layout, m: usize, part: &[u8]) -> Answer
     Answer::Done
 }
 
-// The sixteen blocks of macroblock m, of a record whose content is fine.
-pub fn rebuild_macroblock4(layout: Layout, m: usize, part: &[u8], plane: &mut [u8])
-    requires { ⌜ (Among layout m 0) × (length (now part) ≡ lengthOf inFours) × (length (now plane) ≡ planeLength 16 layout) ⌝ }
+// The 256 samples of macroblock m, of a record whose content is fine, block after block, beside a plane that is only read.
+pub fn rebuild_beside4(layout: Layout, m: usize, part: &[u8], plane: &[u8], own: &mut [u8])
+    requires { ⌜ (Among layout m 0) × (length (now part) ≡ lengthOf inFours) × (length (now plane) ≡ planeLength 16 layout) × (length (now own) ≡ 256) ⌝ }
     requires { ⌜ chain (contentTests4 layout m (now part)) ≡ pass ⌝ }
-    ensures { λ _. ⌜ now (plane .exit) ≡ rebuiltStep4 layout m (now (part .entry)) (now (plane .entry)) ⌝ }
+    ensures { λ _. ⌜ now (own .exit) ≡ wholeOf 16 layout m (rebuiltStep4 layout m (now (part .entry)) (now (plane .entry))) ⌝ }
 {
     let Built::Legal(quantizer) = Quantizer::new(record::inner::qp(part)) else {
         return;
     };
     for b in 0usize..16 {
-        rebuild::rebuild_turn(layout, m, b, quantizer, part, plane);
+        rebuild::rebuild_turn(layout, m, b, quantizer, part, plane, own);
     }
 }
 

@@ -8,32 +8,36 @@ ghost use Rattle.record.specs.Kinds.{inFours, lengthOf};
 ghost use Rattle.record.specs.Records.{qpIn};
 ghost use Rattle.picture.specs.Order.{Among};
 ghost use Rattle.picture.specs.Plane.{planeLength, turn};
+ghost use Rattle.picture.specs.Whole.{withWhole};
 ghost use Rattle.macroblock4.specs.Content.{modeHolds, rangeHolds};
 ghost use Rattle.macroblock4.specs.Rebuild.{blockFrom};
 use crate::content;
 use picture::Layout;
 use quantizer::Quantizer;
 
-// The sixteen predicted samples of block b of macroblock m, and then its own.
+// The sixteen predicted samples of block b of macroblock m, and then its own, among those of the macroblock: the plane is only read.
 pub(crate) fn rebuild_turn(
     layout: Layout,
     m: usize,
     b: usize,
     quantizer: Quantizer,
     part: &[u8],
-    plane: &mut [u8],
+    plane: &[u8],
+    own: &mut [u8],
 )
-    requires { ⌜ (Among layout m b) × (length (now part) ≡ lengthOf inFours) × (length (now plane) ≡ planeLength 16 layout) ⌝ }
+    requires { ⌜ (Among layout m b) × (length (now part) ≡ lengthOf inFours) × (length (now plane) ≡ planeLength 16 layout) × (length (now own) ≡ 256) ⌝ }
     requires { ⌜ (quantizer .qp ≡ qpIn (now part)) × (qpIn (now part) ≤ highest) ⌝ }
     requires { ⌜ (modeHolds layout m (now part) b ≡ true) × (rangeHolds (now part) b ≡ true) ⌝ }
-    ensures { λ _. ⌜ now (plane .exit) ≡ turn 4 (blockFrom layout (now (part .entry))) layout m b (now (plane .entry)) ⌝ }
+    ensures { λ _. ⌜ withWhole 16 layout m (now (own .exit)) (now (plane .entry)) ≡ turn 4 (blockFrom layout (now (part .entry))) layout m b (withWhole 16 layout m (now (own .entry)) (now (plane .entry))) ⌝ }
 {
     let flags = picture::inner::flags(layout, m, b);
-    let neighbours = picture::inner::gather(plane, layout, m, b);
+    let neighbours = picture::inner::gather_over(plane, own, layout, m, b);
     let mode = record::inner::mode(part, b);
     let mut prediction = [0u8; 16];
     intra4::inner::fill(&neighbours, flags, mode, &mut prediction);
     let numbers = content::rescaled(quantizer, part, b);
     let samples = residual::inner::samples(prediction, numbers);
-    picture::inner::store_block(plane, layout, m, b, samples);
+    let x = 4 * picture::inner::column_inside(b);
+    let y = 4 * picture::inner::row_inside(b);
+    picture::inner::store_at(own, 16, x, y, samples);
 }

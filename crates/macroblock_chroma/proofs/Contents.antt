@@ -3,7 +3,7 @@
 --     range-parts                        the two tests of a plane's range, in one
 --     offset-outside, mode-lacking-chroma, range-far-chroma     the refusals
 --     fine-chroma, content-fine-chroma   the tests pass exactly if the content is fine, at whatever place
---     chroma-not-broken                  none of the refusals says that the file is broken
+--     chroma-kind                        the refusals are those of content
 -- Assumes nothing.
 use mathlib.Core.Path.{_≡_, refl, sym}
 use mathlib.Core.Bool.{Bool, true, false, _&&_}
@@ -17,7 +17,8 @@ use Rattle.lists.proofs.Chain.{chain-exactly-if}
 use Rattle.lists.proofs.Every.{both-true}
 use Rattle.refusal.specs.declared.Refusal.{Refusal}
 use Rattle.refusal.specs.declared.Refusal.the-variants as refusal
-use Rattle.refusal.proofs.Faults.{false-not-true, noneBroken}
+use Rattle.refusal.specs.Faults.{isContent}
+use Rattle.refusal.proofs.Faults.{false-not-true, allOf}
 use Rattle.whole.specs.Bounds.{Each}
 use Rattle.whole.specs.Notation.{minus}
 use Rattle.whole.specs.Range.{inside}
@@ -103,6 +104,6 @@ content-fine-chroma {l} {m} {qp} {part} f place =
     let cr = both-true (dcFits 8 (crQuantizer qp part) (crLevelsIn part)) (eqb (firstAc 8 (crQuantizer qp part) (crLevelsIn part)) 4) (f .crRange) in
     simp (f .cbOffset, f .crOffset, f .mode, cb .0, cb .1, cr .0, cr .1)
 
-pub chroma-not-broken : (l : Layout) (m qp place : ℕ) (part : List ℕ) → noneBroken (contentTestsChroma l m qp place part) ≡ true
+pub chroma-kind : (l : Layout) (m qp place : ℕ) (part : List ℕ) → allOf isContent (contentTestsChroma l m qp place part) ≡ true
 unfolding contentTestsChroma
-chroma-not-broken l m qp place part = refl
+chroma-kind l m qp place part = refl

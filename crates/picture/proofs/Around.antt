@@ -1,6 +1,8 @@
 -- How the code reaches a block's neighbours: by places counted back from the block's first sample.
 --     reach-corner, reach-above, reach-right, reach-left     a group that is present lies in the plane
---     gathered-parts     the neighbours, group by group
+--     seen               what a neighbour's presence says of the block
+--     corner-place, above-place, right-place, left-place     a neighbour by its place
+--     in-groups, gathered-parts     the neighbours, group by group; by their places
 -- Assumes nothing.
 use mathlib.Core.Path.{_≡_, refl, _∙_}
 use mathlib.Core.Bool.{Bool, true, false, cond}
@@ -25,7 +27,7 @@ abbrev firstPlace : Layout → (m b : ℕ) → ℕ
 firstPlace l m b = blockRow l m b * stride 16 l + blockColumn l m b
 
 -- what a neighbour's presence says of the block
-seen : (l : Layout) (m b k : ℕ) → presentAt 4 l m b k ≡ true → Present l (orderOf m b) (neighbourColumn 4 (blockColumn l m b) k) (neighbourRow 4 (blockRow l m b) k)
+pub seen : (l : Layout) (m b k : ℕ) → presentAt 4 l m b k ≡ true → Present l (orderOf m b) (neighbourColumn 4 (blockColumn l m b) k) (neighbourRow 4 (blockRow l m b) k)
 unfolding presentAt
 seen l m b k e = present-is l (orderOf m b) (neighbourColumn 4 (blockColumn l m b) k) (neighbourRow 4 (blockRow l m b) k) e
 
@@ -38,7 +40,7 @@ by-place l m b plane k true place e h = rw (e, h refl)
 by-place l m b plane k false place e h = rw e
 
 -- M, A-D, E-H, I-L
-in-groups : (l : Layout) (m b : ℕ) (plane : List ℕ) → gathered 4 l m b plane
+pub in-groups : (l : Layout) (m b : ℕ) (plane : List ℕ) → gathered 4 l m b plane
     ≡ (neighbour 4 l m b plane 0 ∷ [])
     ++ tab 4 (λ i. neighbour 4 l m b plane (1 + i))
     ++ tab 4 (λ i. neighbour 4 l m b plane (5 + i))
@@ -79,20 +81,20 @@ module _ {l : Layout} {m b : ℕ} (a : Among l m b) where
   }
 
   module _ (plane : List ℕ) where
-    corner-place : neighbour 4 l m b plane 0 ≡ cond (presentAt 4 l m b 0) (getD plane (firstPlace l m b - (stride 16 l + 1)) 0) 0
+    pub corner-place : neighbour 4 l m b plane 0 ≡ cond (presentAt 4 l m b 0) (getD plane (firstPlace l m b - (stride 16 l + 1)) 0) 0
     corner-place = by-place l m b plane 0 (presentAt 4 l m b 0) _ refl (λ e. omega (arith, row-above 0 (omega arith) e, seen l m b 0 e .left))
 
-    above-place : (i : ℕ) → i < 4 → neighbour 4 l m b plane (1 + i) ≡ cond (presentAt 4 l m b 1) (getD plane (firstPlace l m b - stride 16 l + i * 1) 0) 0
+    pub above-place : (i : ℕ) → i < 4 → neighbour 4 l m b plane (1 + i) ≡ cond (presentAt 4 l m b 1) (getD plane (firstPlace l m b - stride 16 l + i * 1) 0) 0
     above-place i h =
         by-place l m b plane (1 + i) (presentAt 4 l m b 1) _ (with-first-above (among-four a) (1 + i) (omega arith) (omega arith))
         (λ e. rw (le-leb (1 + i) 8 (omega arith)) (omega (arith, row-above 1 (omega arith) e)))
 
-    right-place : (i : ℕ) → i < 4 → neighbour 4 l m b plane (5 + i) ≡ cond (presentAt 4 l m b 5) (getD plane (firstPlace l m b - (stride 16 l - 4) + i * 1) 0) 0
+    pub right-place : (i : ℕ) → i < 4 → neighbour 4 l m b plane (5 + i) ≡ cond (presentAt 4 l m b 5) (getD plane (firstPlace l m b - (stride 16 l - 4) + i * 1) 0) 0
     right-place i h =
         by-place l m b plane (5 + i) (presentAt 4 l m b 5) _ (with-first-right (among-four a) (5 + i) (omega arith) (omega arith))
         (λ e. rw (le-leb (5 + i) 8 (omega arith)) (omega (arith, a .sound .some, row-above 5 (omega arith) e)))
 
-    left-place : (i : ℕ) → i < 4 → neighbour 4 l m b plane (9 + i) ≡ cond (presentAt 4 l m b 9) (getD plane (firstPlace l m b - 1 + i * stride 16 l) 0) 0
+    pub left-place : (i : ℕ) → i < 4 → neighbour 4 l m b plane (9 + i) ≡ cond (presentAt 4 l m b 9) (getD plane (firstPlace l m b - 1 + i * stride 16 l) 0) 0
     left-place i h =
         by-place l m b plane (9 + i) (presentAt 4 l m b 9) _ (with-first-left (among-four a) (9 + i) (omega arith) (omega arith))
         (λ e.

@@ -6,6 +6,7 @@ pub mod Byte
 pub mod Bytes
 pub mod Macroblocks
 pub mod OneSlice
+pub mod Over
 pub mod Owner
 pub mod Plane
 pub mod Presence

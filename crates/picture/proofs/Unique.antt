@@ -17,6 +17,8 @@ use Rattle.picture.proofs.inner.first_place.Kinds as first-place
 use Rattle.picture.proofs.inner.first_place.Reads as first-place-reads
 use Rattle.picture.proofs.inner.gather.Kinds as gather
 use Rattle.picture.proofs.inner.gather.Reads as gather-reads
+use Rattle.picture.proofs.inner.gather_over.Kinds as gather-over
+use Rattle.picture.proofs.inner.gather_over.Reads as gather-over-reads
 use Rattle.picture.proofs.inner.block_at.Kinds as block-at
 use Rattle.picture.proofs.inner.block_at.Reads as block-at-reads
 use Rattle.picture.proofs.inner.store_at.Kinds as store-at
@@ -51,6 +53,9 @@ first-place-unique κs a x y e f p q = (p ∙ sym q, refl)
 
 pub gather-unique : Unique 1 gather.ps gather.r gather-reads.Learnt (Unit {0}) (λ κs e. tt)
 gather-unique κs a x y e f p q = (p ∙ sym q, refl)
+
+pub gather-over-unique : Unique 2 gather-over.ps gather-over.r gather-over-reads.Learnt (Unit {0}) (λ κs e. tt)
+gather-over-unique κs a x y e f p q = (p ∙ sym q, refl)
 
 pub block-at-unique : Unique 1 block-at.ps block-at.r block-at-reads.Learnt (Unit {0}) (λ κs e. tt)
 block-at-unique κs a x y e f p q = (p ∙ sym q, refl)

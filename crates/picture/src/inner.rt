@@ -1,12 +1,13 @@
 // What the crates above ask of a picture: where a block stands, which of its neighbours are present, and its samples.
 ghost use mathlib.Core.Bool.{cond};
+ghost use mathlib.Core.List.{[], _∷_, _++_};
 ghost use mathlib.Core.Path.{_≡_};
 ghost use Prim.Native.Nat.{_+_, _*_, _-_, _/_, _%_, _<_, _≤_};
 ghost use lib.ListN.{length, getD};
 ghost use Rattle.lists.specs.Stores.{stores};
 ghost use Rattle.lists.specs.Tab.{tab};
 ghost use Rattle.picture.specs.Order.{Among, columnIn, rowIn, blockColumn, blockRow};
-ghost use Rattle.picture.specs.Plane.{layoutOf, stride, planeLength, blockAt, stored, blockOf, withBlock, gathered};
+ghost use Rattle.picture.specs.Plane.{layoutOf, stride, planeLength, blockAt, stored, blockOf, withBlock, neighbour, gathered};
 ghost use Rattle.picture.specs.Presence.{presentAt, flagsOf};
 ghost use Rattle.picture.specs.Reach.{Behind, Reaches, rowInSlice, early};
 ghost use Rattle.picture.specs.Whole.{wholeColumn, wholeRow, wholeOf, withWhole, flagsRound, gatheredRound};
@@ -167,18 +168,10 @@ fn four(plane: &[u8], at: usize, back: usize, step: usize, present: bool) -> [u8
     }
 }
 
-// The neighbours of a block, in the order M, A to H, I to L; 0 stands for one that is missing.
-pub fn gather(plane: &[u8], layout: Layout, m: usize, b: usize) -> [u8; 13]
-    requires { ⌜ Among layout m b ⌝ }
-    requires { ⌜ length (now plane) ≡ planeLength 16 layout ⌝ }
-    ensures { λ r. ⌜ r ≡ gathered 4 layout m b (now (plane .entry)) ⌝ }
+// A block's neighbours in one list.
+fn in_order(corner: u8, above: [u8; 4], right: [u8; 4], left: [u8; 4]) -> [u8; 13]
+    ensures { λ r. ⌜ r ≡ (corner ∷ []) ++ tab 4 (λ k. getD above k 0) ++ tab 4 (λ k. getD right k 0) ++ tab 4 (λ k. getD left k 0) ⌝ }
 {
-    let stride = 16 * layout.width;
-    let at = first_place(layout, m, b);
-    let corner = sample(plane, at, stride + 1, has_corner(layout, m, b));
-    let above = four(plane, at, stride, 1, has_above(layout, m, b));
-    let right = four(plane, at, stride - 4, 1, has_upper_right(layout, m, b));
-    let left = four(plane, at, 1, stride, has_left(layout, m, b));
     [
         corner,
         above[0],
@@ -194,6 +187,124 @@ pub fn gather(plane: &[u8], layout: Layout, m: usize, b: usize) -> [u8; 13]
         left[2],
         left[3],
     ]
+}
+
+// The neighbours of a block, in the order M, A to H, I to L; 0 stands for one that is missing.
+pub fn gather(plane: &[u8], layout: Layout, m: usize, b: usize) -> [u8; 13]
+    requires { ⌜ Among layout m b ⌝ }
+    requires { ⌜ length (now plane) ≡ planeLength 16 layout ⌝ }
+    ensures { λ r. ⌜ r ≡ gathered 4 layout m b (now (plane .entry)) ⌝ }
+{
+    let stride = 16 * layout.width;
+    let at = first_place(layout, m, b);
+    let corner = sample(plane, at, stride + 1, has_corner(layout, m, b));
+    let above = four(plane, at, stride, 1, has_above(layout, m, b));
+    let right = four(plane, at, stride - 4, 1, has_upper_right(layout, m, b));
+    let left = four(plane, at, 1, stride, has_left(layout, m, b));
+    in_order(corner, above, right, left)
+}
+
+// ---- the same over a macroblock's own samples: as its neighbours stand in the plane with these 256 in their places, which is not made
+
+// The place of block b's first sample among its macroblock's own.
+fn own_place(b: usize) -> usize
+    requires { ⌜ b < 16 ⌝ }
+    ensures { λ r. ⌜ r ≡ 64 * rowIn b + 4 * columnIn b ⌝ }
+{
+    64 * row_inside(b) + 4 * column_inside(b)
+}
+
+// M. The macroblock's own rows have 16 samples.
+fn corner_over(plane: &[u8], own: &[u8], layout: Layout, m: usize, b: usize) -> u8
+    requires { ⌜ Among layout m b ⌝ }
+    requires { ⌜ (length (now plane) ≡ planeLength 16 layout) × (length (now own) ≡ 256) ⌝ }
+    ensures { λ r. ⌜ r ≡ neighbour 4 layout m b (withWhole 16 layout m (now (own .entry)) (now (plane .entry))) 0 ⌝ }
+{
+    let present = has_corner(layout, m, b);
+    if 0 < row_inside(b) * column_inside(b) {
+        sample(own, own_place(b), 17, present)
+    } else {
+        sample(
+            plane,
+            first_place(layout, m, b),
+            16 * layout.width + 1,
+            present,
+        )
+    }
+}
+
+// A to D.
+fn above_over(plane: &[u8], own: &[u8], layout: Layout, m: usize, b: usize) -> [u8; 4]
+    requires { ⌜ Among layout m b ⌝ }
+    requires { ⌜ (length (now plane) ≡ planeLength 16 layout) × (length (now own) ≡ 256) ⌝ }
+    ensures { λ r. ⌜ r ≡ tab 4 (λ k. neighbour 4 layout m b (withWhole 16 layout m (now (own .entry)) (now (plane .entry))) (1 + k)) ⌝ }
+{
+    let present = has_above(layout, m, b);
+    if 0 < row_inside(b) {
+        four(own, own_place(b), 16, 1, present)
+    } else {
+        four(
+            plane,
+            first_place(layout, m, b),
+            16 * layout.width,
+            1,
+            present,
+        )
+    }
+}
+
+// E to H.
+fn right_over(plane: &[u8], own: &[u8], layout: Layout, m: usize, b: usize) -> [u8; 4]
+    requires { ⌜ Among layout m b ⌝ }
+    requires { ⌜ (length (now plane) ≡ planeLength 16 layout) × (length (now own) ≡ 256) ⌝ }
+    ensures { λ r. ⌜ r ≡ tab 4 (λ k. neighbour 4 layout m b (withWhole 16 layout m (now (own .entry)) (now (plane .entry))) (5 + k)) ⌝ }
+{
+    let present = has_upper_right(layout, m, b);
+    if 0 < row_inside(b) {
+        four(own, own_place(b), 12, 1, present)
+    } else {
+        four(
+            plane,
+            first_place(layout, m, b),
+            16 * layout.width - 4,
+            1,
+            present,
+        )
+    }
+}
+
+// I to L.
+fn left_over(plane: &[u8], own: &[u8], layout: Layout, m: usize, b: usize) -> [u8; 4]
+    requires { ⌜ Among layout m b ⌝ }
+    requires { ⌜ (length (now plane) ≡ planeLength 16 layout) × (length (now own) ≡ 256) ⌝ }
+    ensures { λ r. ⌜ r ≡ tab 4 (λ k. neighbour 4 layout m b (withWhole 16 layout m (now (own .entry)) (now (plane .entry))) (9 + k)) ⌝ }
+{
+    let present = has_left(layout, m, b);
+    if 0 < column_inside(b) {
+        four(own, own_place(b), 1, 16, present)
+    } else {
+        four(
+            plane,
+            first_place(layout, m, b),
+            1,
+            16 * layout.width,
+            present,
+        )
+    }
+}
+
+// All of them.
+pub fn gather_over(plane: &[u8], own: &[u8], layout: Layout, m: usize, b: usize) -> [u8; 13]
+    requires { ⌜ Among layout m b ⌝ }
+    requires { ⌜ (length (now plane) ≡ planeLength 16 layout) × (length (now own) ≡ 256) ⌝ }
+    ensures { λ r. ⌜ r ≡ gathered 4 layout m b (withWhole 16 layout m (now (own .entry)) (now (plane .entry))) ⌝ }
+{
+    in_order(
+        corner_over(plane, own, layout, m, b),
+        above_over(plane, own, layout, m, b),
+        right_over(plane, own, layout, m, b),
+        left_over(plane, own, layout, m, b),
+    )
 }
 
 // The sixteen samples of four rows from column x of row y on, in rows of `stride` samples.

@@ -1,6 +1,6 @@
 -- When the decoder says that a file is broken, and where (02, Req 03), of any call of `decode_plane`, over its own reading: a holds the call's
 -- arguments, r its answer, e what is lent at its exit.
---     contents-not-broken                  no test of a record's content says so
+--     contents-kind                        the refusals of the records' content are those of content
 --     FileBroken, refused-only, refused-if what is broken: the head, the first record whose own tests fail, or bytes after the last one
 --     SaysBroken, broken-only              what each number says is broken
 --     mark-exactly-if, number-exactly-if, sum-exactly-if, form-exactly-if     11, 12, 13 and 9, each with its place
@@ -9,7 +9,7 @@ use mathlib.Core.Path.{_≡_, refl, sym, ap, subst, _∙_}
 use mathlib.Core.Bool.{Bool, true, false, cond}
 use mathlib.Core.List.{List, []}
 use mathlib.Core.Logic.{_⊎_, inl, inr, _↔_}
-use Prim.Native.Nat.{ℕ, zero, suc, _+_, _-_, _<_}
+use Prim.Native.Nat.{ℕ, _+_, _-_, _<_}
 use native.Mathlib.Omega.{arith}
 use borrow.Author.Tests.{eqb-true, eqb-false, leb-true, leb-false, le-leb, lt-leb}
 use contract.Lifetimes.{Lfts}
@@ -26,9 +26,9 @@ use Rattle.refusal.specs.declared.Fault.{Fault}
 use Rattle.refusal.specs.declared.Fault.the-variants.{CutMark, Mark, CutRest, Number, Sum}
 use Rattle.refusal.specs.declared.Refusal.{Refusal}
 use Rattle.refusal.specs.declared.Refusal.the-variants as refusal
-use Rattle.refusal.specs.Faults.{refusalOf, isBroken}
+use Rattle.refusal.specs.Faults.{refusalOf, isBroken, isContent}
 use Rattle.refusal.specs.Number.{numberOf, placeOf, said}
-use Rattle.refusal.proofs.Faults.{false-not-true, noneBroken, none-broken, none-behind}
+use Rattle.refusal.proofs.Faults.{false-not-true, allOf, all-of, all-behind, all-parts, content-apart}
 use Rattle.refusal.proofs.Same.{says-same, same-answer}
 use Rattle.head.specs.Entry.{headTests, longAt}
 use Rattle.record.specs.Faults.{surplus}
@@ -38,9 +38,9 @@ use Rattle.picture.specs.declared.Layout.{Layout}
 use Rattle.picture.specs.Order.{countOf}
 use Rattle.picture.specs.Plane.{planeLength}
 use Rattle.macroblock.specs.Content.{contentTests}
-use Rattle.macroblock.proofs.Contents.{content-not-broken}
+use Rattle.macroblock.proofs.Contents.{content-kind}
 use Rattle.macroblock_chroma.specs.Content.{contentTestsChroma}
-use Rattle.macroblock_chroma.proofs.Contents.{chroma-not-broken}
+use Rattle.macroblock_chroma.proofs.Contents.{chroma-kind}
 use Rattle.plane.specs.Broken.{placeIn, recordsOf, FineTo, FirstBroken, MarkRefused, head-mark, record-mark, NumberRefused, record-number, SumRefused, head-sum, record-sum, FormRefused, head-cut, head-short, mark-cut, rest-cut, left-over}
 use Rattle.plane.specs.Decode.{lumaIn, chromaIn, chromaPlace, formsTests, macroblockTests, contentsTests, recordsTests, bodyTests, layoutIn, decodeTests}
 use Rattle.plane.proofs.Entry.{plane-short, body-rest}
@@ -50,21 +50,18 @@ use Rattle.plane.proofs.decode_plane.Reads as reads
 same-refusal : {r t : Refusal} → stop r ≡ stop t → r ≡ t
 same-refusal e = cc
 
--- of one macroblock's records, luma's and chroma's
-records-not-broken : (l : Layout) (start : ℕ) (file : List ℕ) (m : ℕ) → noneBroken (macroblockTests l start file m) ≡ true
+-- of one macroblock's records, luma's and chroma's, the refusals are those of content; and so of all
+records-kind : (l : Layout) (start : ℕ) (file : List ℕ) (m : ℕ) → allOf isContent (macroblockTests l start file m) ≡ true
 unfolding macroblockTests
-records-not-broken l start file m =
-    none-behind (contentTests l m (lumaIn file start m)) _ (content-not-broken l m (lumaIn file start m)) (by (colourAt start file))
+records-kind l start file m =
+    all-behind isContent (contentTests l m (lumaIn file start m)) _ (content-kind l m (lumaIn file start m)) (by (colourAt start file))
   where
-    by : (b : Bool) → noneBroken (cond b (contentTestsChroma l m (qpIn (lumaIn file start m)) (chromaPlace file start m) (chromaIn file start m)) []) ≡ true
-    by true = chroma-not-broken l m (qpIn (lumaIn file start m)) (chromaPlace file start m) (chromaIn file start m)
+    by : (b : Bool) → allOf isContent (cond b (contentTestsChroma l m (qpIn (lumaIn file start m)) (chromaPlace file start m) (chromaIn file start m)) []) ≡ true
+    by true = chroma-kind l m (qpIn (lumaIn file start m)) (chromaPlace file start m) (chromaIn file start m)
     by false = refl
 
-pub contents-not-broken : (l : Layout) (start : ℕ) (file : List ℕ) (n : ℕ) → noneBroken (parts n (macroblockTests l start file)) ≡ true
-unfolding parts
-contents-not-broken l start file zero = refl
-contents-not-broken l start file (suc n) =
-    none-behind (parts n (macroblockTests l start file)) (macroblockTests l start file n) (contents-not-broken l start file n) (records-not-broken l start file n)
+pub contents-kind : (l : Layout) (start : ℕ) (file : List ℕ) → allOf isContent (contentsTests l start file) ≡ true
+contents-kind l start file = all-parts isContent (macroblockTests l start file) (records-kind l start file) (countOf l)
 
 -- the head's own tests say so; or record m is the first whose own tests fail; or bytes are left after the last one
 data FileBroken (file before : List ℕ) (r : Refusal) : Type 0 where
@@ -97,8 +94,8 @@ module _ (file before : List ℕ) (r : Refusal) (broken : isBroken r ≡ true) w
     where
       by : (v : Verdict Refusal) → chain (formsTests l start file) ≡ v → FileBroken file before r
       by pass q =
-          absurd (none-broken r broken (contentsTests l start file) (contents-not-broken l start file (countOf l))
-          (sym (chain-passed (formsTests l start file) (contentsTests l start file) q) ∙ e))
+          absurd (content-apart r broken
+          (all-of isContent r (contentsTests l start file) (contents-kind l start file) (sym (chain-passed (formsTests l start file) (contentsTests l start file) q) ∙ e)))
       by (stop t) q =
           let told : chain (formsTests l start file) ≡ stop r = q ∙ sym (chain-refused (formsTests l start file) (contentsTests l start file) t q) ∙ e in
           forms-only head plane (form-refuses-exactly-if colour file start (recordsOf file) r .0 told)

@@ -44,3 +44,20 @@ isBroken (refusal.Form k) = true
 isBroken (refusal.Mark k) = true
 isBroken (refusal.Number k) = true
 isBroken (refusal.Sum k) = true
+isBroken (refusal.Differs k) = false
+
+-- and those of a record's content: "by record QUANTIZER, all modes, then ranges" (01, "What is sent back, and in which order it is tested")
+abbrev pub isContent : Refusal → Bool
+isContent refusal.Length = false
+isContent refusal.Size = false
+isContent (refusal.Flags k) = false
+isContent (refusal.Quantizer k) = true
+isContent (refusal.Mode k) = true
+isContent (refusal.Residual k) = false
+isContent (refusal.Level k) = false
+isContent (refusal.Range k) = true
+isContent (refusal.Form k) = false
+isContent (refusal.Mark k) = false
+isContent (refusal.Number k) = false
+isContent (refusal.Sum k) = false
+isContent (refusal.Differs k) = false

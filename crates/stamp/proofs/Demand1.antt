@@ -32,12 +32,13 @@ use Rattle.plane.proofs.CodedStart.{code-plane-entry-has-no-value}
 use Rattle.frame.specs.Code.{codePictureTests, CodesPicture}
 use Rattle.frame.specs.Decode.{decodePictureTests, cbOf, crOf, colourNumber}
 use Rattle.frame.proofs.FrameStart.{code-picture-entry-has-no-value}
+use Rattle.inspection.specs.Inspect.{inspectTests}
 use Rattle.sheet.specs.Entry.{writeTests}
 use Rattle.fleecebutton.specs.Sends.{PredictSends, ChooseSends, CodeBlockSends, DecodePictureSends}
 use Rattle.fleecebutton.proofs.Told.{passed-word}
 use Rattle.turned.specs.Calls.{ForwardCall, LevelsCall, PredictCall, forwardAfter, forwardBefore, forwardResidual, levelsAfter, levelsBefore, levelsQuantizer, levelsResidual, predictAfter, predictBefore, predictFlags, predictMode, predictNeighbours}
 use Rattle.stamp.specs.Answers.{Succeeds, valueTold, Answers, KeepsIfRefused}
-use Rattle.stamp.specs.Calls.{BlockCall, ChooseCall, ChromaLevelsCall, ChromaQuantizerCall, ChromaValuesCall, CodingCall, DecodingCall, HeadCall, LumaLevelsCall, LumaValuesCall, PictureCodingCall, PictureDecodingCall, PromiseCall, RebuildCall, SameCoding, SamePictureCoding, SheetCall, WithDcCall, blockFlags, blockLevelsAfter, blockLevelsBefore, blockNeighbours, blockQuantizer, blockRebuiltAfter, blockRebuiltBefore, blockSamples, chooseAfter, chooseBefore, chooseFlags, chooseNeighbours, chooseSamples, chromaLevelsAfter, chromaLevelsBefore, chromaLevelsQuantizer, chromaLevelsValues, chromaQuantizerNumber, chromaQuantizerOffset, chromaValuesAfter, chromaValuesBefore, chromaValuesLevels, chromaValuesQuantizer, codingFileAfter, codingFileBefore, codingHeight, codingPlane, codingQuantizer, codingRebuiltAfter, codingRebuiltBefore, codingRows, codingWidth, decodingFile, decodingPlaneAfter, decodingPlaneBefore, headFile, lumaLevelsAfter, lumaLevelsBefore, lumaLevelsQuantizer, lumaLevelsValues, lumaValuesAfter, lumaValuesBefore, lumaValuesLevels, lumaValuesQuantizer, pictureCodingCb, pictureCodingCbOffset, pictureCodingCr, pictureCodingCrOffset, pictureCodingFileAfter, pictureCodingFileBefore, pictureCodingHeight, pictureCodingLuma, pictureCodingQuantizer, pictureCodingRebuiltCbAfter, pictureCodingRebuiltCbBefore, pictureCodingRebuiltCrAfter, pictureCodingRebuiltCrBefore, pictureCodingRebuiltLumaAfter, pictureCodingRebuiltLumaBefore, pictureCodingRows, pictureCodingWidth, pictureDecodingCbAfter, pictureDecodingCbBefore, pictureDecodingCrAfter, pictureDecodingCrBefore, pictureDecodingFile, pictureDecodingLumaAfter, pictureDecodingLumaBefore, promiseQuantizer, rebuildAfter, rebuildBefore, rebuildLevels, rebuildPrediction, rebuildQuantizer, sheetAfter, sheetBefore, sheetHeight, sheetMap, sheetOriginal, sheetRebuilt, sheetWidth, withDcAfter, withDcBefore, withDcLevels, withDcPrediction, withDcQuantizer, withDcValue}
+use Rattle.stamp.specs.Calls.{BlockCall, ChooseCall, ChromaLevelsCall, ChromaQuantizerCall, ChromaValuesCall, CodingCall, DecodingCall, HeadCall, InspectCall, LumaLevelsCall, LumaValuesCall, PictureCodingCall, PictureDecodingCall, PromiseCall, RebuildCall, SameCoding, SamePictureCoding, SheetCall, WithDcCall, blockFlags, blockLevelsAfter, blockLevelsBefore, blockNeighbours, blockQuantizer, blockRebuiltAfter, blockRebuiltBefore, blockSamples, chooseAfter, chooseBefore, chooseFlags, chooseNeighbours, chooseSamples, chromaLevelsAfter, chromaLevelsBefore, chromaLevelsQuantizer, chromaLevelsValues, chromaQuantizerNumber, chromaQuantizerOffset, chromaValuesAfter, chromaValuesBefore, chromaValuesLevels, chromaValuesQuantizer, codingFileAfter, codingFileBefore, codingHeight, codingPlane, codingQuantizer, codingRebuiltAfter, codingRebuiltBefore, codingRows, codingWidth, decodingFile, decodingPlaneAfter, decodingPlaneBefore, headFile, inspectFile, inspectTheirs, lumaLevelsAfter, lumaLevelsBefore, lumaLevelsQuantizer, lumaLevelsValues, lumaValuesAfter, lumaValuesBefore, lumaValuesLevels, lumaValuesQuantizer, pictureCodingCb, pictureCodingCbOffset, pictureCodingCr, pictureCodingCrOffset, pictureCodingFileAfter, pictureCodingFileBefore, pictureCodingHeight, pictureCodingLuma, pictureCodingQuantizer, pictureCodingRebuiltCbAfter, pictureCodingRebuiltCbBefore, pictureCodingRebuiltCrAfter, pictureCodingRebuiltCrBefore, pictureCodingRebuiltLumaAfter, pictureCodingRebuiltLumaBefore, pictureCodingRows, pictureCodingWidth, pictureDecodingCbAfter, pictureDecodingCbBefore, pictureDecodingCrAfter, pictureDecodingCrBefore, pictureDecodingFile, pictureDecodingLumaAfter, pictureDecodingLumaBefore, promiseQuantizer, rebuildAfter, rebuildBefore, rebuildLevels, rebuildPrediction, rebuildQuantizer, sheetAfter, sheetBefore, sheetHeight, sheetMap, sheetOriginal, sheetRebuilt, sheetWidth, withDcAfter, withDcBefore, withDcLevels, withDcPrediction, withDcQuantizer, withDcValue}
 use Rattle.stamp.proofs.Laws.{answers, kept, sent, valued, sent-made, same-word}
 use Rattle.stamp.proofs.Sent.{sent-plane, sent-picture}
 
@@ -149,6 +150,10 @@ fb-decode-picture-answers c = (
   kept (pictureDecodingTests c) _ _ (c .learnt .word) (c .learnt .cbs),
   kept (pictureDecodingTests c) _ _ (c .learnt .word) (c .learnt .crs),
 )
+
+-- it has no output: nothing is written
+pub fb-inspect-answers : (c : InspectCall) → Answers (inspectTests (inspectFile c) (inspectTheirs c)) (c .word)
+fb-inspect-answers c = answers (inspectTests (inspectFile c) (inspectTheirs c)) _ (c .learnt)
 
 pub fb-quality-sheet-answers : (c : SheetCall) → Answers (writeTests (sheetWidth c) (sheetHeight c) (sheetOriginal c) (sheetRebuilt c) (sheetMap c) (sheetBefore c)) (c .word)
     × KeepsIfRefused (c .word) (sheetBefore c) (sheetAfter c)

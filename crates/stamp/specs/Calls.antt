@@ -38,6 +38,8 @@ use Rattle.fleecebutton.proofs.fb_code_picture.Kinds as fb-code-picture
 use Rattle.fleecebutton.proofs.fb_code_picture.Reads as fb-code-picture-reads
 use Rattle.fleecebutton.proofs.fb_decode_picture.Kinds as fb-decode-picture
 use Rattle.fleecebutton.proofs.fb_decode_picture.Reads as fb-decode-picture-reads
+use Rattle.fleecebutton.proofs.fb_inspect.Kinds as fb-inspect
+use Rattle.fleecebutton.proofs.fb_inspect.Reads as fb-inspect-reads
 use Rattle.fleecebutton.proofs.fb_quality_sheet.Kinds as fb-quality-sheet
 use Rattle.fleecebutton.proofs.fb_quality_sheet.Reads as fb-quality-sheet-reads
 
@@ -383,6 +385,17 @@ pictureDecodingCrBefore c = now (c .given .1 .1 .1 .0)
 
 abbrev pub pictureDecodingCrAfter : PictureDecodingCall → List ℕ
 pictureDecodingCrAfter c = now (c .exit .1 .1 .1 .0)
+
+-- ---- `fb_inspect`
+
+abbrev pub InspectCall : Type 0
+InspectCall = Call 2 fb-inspect.ps fb-inspect.r fb-inspect-reads.Learnt
+
+abbrev pub inspectFile : InspectCall → List ℕ
+inspectFile c = now (c .given .0)
+
+abbrev pub inspectTheirs : InspectCall → List ℕ
+inspectTheirs c = now (c .given .1 .0)
 
 -- ---- `fb_quality_sheet`
 

@@ -13,13 +13,13 @@ pub(crate) const NEVER_SENT: u64 = 255;
 
 // Whether the call sends back the word that the frame has, and leaves its outputs as they stand there, behind what was lent too.
 pub(crate) fn answered(function: u8, frame: &[u8]) -> bool
-    requires { ⌜ length (now frame) ≡ 33766 ⌝ }
+    requires { ⌜ length (now frame) ≡ 36838 ⌝ }
 {
     match function {
         0 | 1 | 4 | 5 | 11 => blocks::answered(function, frame),
         13 => coding::plane_answered(frame),
         17 => coding::picture_answered(frame),
-        14 | 15 | 18 => decoding::answered(function, frame),
+        14 | 15 | 18 | 19 => decoding::answered(function, frame),
         _ => numbers::answered(function, frame),
     }
 }

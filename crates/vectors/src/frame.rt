@@ -29,19 +29,19 @@ pub(crate) const MADE: usize = 142;
 
 pub(crate) const SECOND: usize = 210;
 
-pub(crate) const THIRD: usize = 1234;
+pub(crate) const THIRD: usize = 4306;
 
-pub(crate) const FIRST: usize = 2258;
+pub(crate) const FIRST: usize = 5330;
 
-pub(crate) const OUT: usize = 14940;
+pub(crate) const OUT: usize = 18012;
 
-pub(crate) const MORE: usize = 27622;
+pub(crate) const MORE: usize = 30694;
 
-pub(crate) const EXTRA: usize = 31718;
+pub(crate) const EXTRA: usize = 34790;
 
-pub(crate) const LAST: usize = 32742;
+pub(crate) const LAST: usize = 35814;
 
-pub(crate) const END: usize = 33766;
+pub(crate) const END: usize = 36838;
 
 fn wide(byte: u8) -> u64
     ensures { λ r. ⌜ r < 256 ⌝ }
@@ -90,7 +90,7 @@ pub(crate) struct Size {
 }
 
 pub(crate) fn size_in(frame: &[u8]) -> Size
-    requires { ⌜ length (now frame) ≡ 33766 ⌝ }
+    requires { ⌜ length (now frame) ≡ 36838 ⌝ }
 {
     let width = eight(frame, 0) as usize;
     let height = eight(frame, 8) as usize;
@@ -115,7 +115,7 @@ pub(crate) fn numbers(part: &[u8]) -> [i32; 17]
 
 // The length of a slice, cut to the room there is.
 fn lent(frame: &[u8], slice: usize, room: usize) -> usize
-    requires { ⌜ (slice < 9) × (length (now frame) ≡ 33766) ⌝ }
+    requires { ⌜ (slice < 9) × (length (now frame) ≡ 36838) ⌝ }
     ensures { λ r. ⌜ r ≤ room ⌝ }
 {
     let length = two(frame, LENGTHS + 2 * slice) as usize;
@@ -124,7 +124,7 @@ fn lent(frame: &[u8], slice: usize, room: usize) -> usize
 
 // The bytes of a slice that is lent, whose room is between two places.
 pub(crate) fn bytes_in(frame: &[u8], slice: usize, start: usize, end: usize) -> &[u8]
-    requires { ⌜ (slice < 9) × (length (now frame) ≡ 33766) × (start ≤ end) × (end ≤ 33766) ⌝ }
+    requires { ⌜ (slice < 9) × (length (now frame) ≡ 36838) × (start ≤ end) × (end ≤ 36838) ⌝ }
 {
     let behind = start + lent(frame, slice, end - start);
     &frame[start..behind]
@@ -132,7 +132,7 @@ pub(crate) fn bytes_in(frame: &[u8], slice: usize, start: usize, end: usize) -> 
 
 // The part of an output's room that is lent.
 pub(crate) fn bytes_out<'a>(frame: &[u8], slice: usize, room: &'a mut [u8]) -> &'a mut [u8]
-    requires { ⌜ (slice < 9) × (length (now frame) ≡ 33766) ⌝ }
+    requires { ⌜ (slice < 9) × (length (now frame) ≡ 36838) ⌝ }
 {
     let length = lent(frame, slice, room.len());
     &mut room[0..length]
@@ -140,14 +140,14 @@ pub(crate) fn bytes_out<'a>(frame: &[u8], slice: usize, room: &'a mut [u8]) -> &
 
 // The same of numbers: the list that is lent, and the part of an output's room.
 pub(crate) fn numbers_in<'a>(frame: &[u8], slice: usize, list: &'a [i32]) -> &'a [i32]
-    requires { ⌜ (slice < 9) × (length (now frame) ≡ 33766) ⌝ }
+    requires { ⌜ (slice < 9) × (length (now frame) ≡ 36838) ⌝ }
 {
     let length = lent(frame, slice, list.len());
     &list[0..length]
 }
 
 pub(crate) fn numbers_out<'a>(frame: &[u8], slice: usize, room: &'a mut [i32]) -> &'a mut [i32]
-    requires { ⌜ (slice < 9) × (length (now frame) ≡ 33766) ⌝ }
+    requires { ⌜ (slice < 9) × (length (now frame) ≡ 36838) ⌝ }
 {
     let length = lent(frame, slice, room.len());
     &mut room[0..length]

@@ -4,7 +4,7 @@ mod calls;
 mod frame;
 mod recording;
 
-// A function by its number in `calls`, and the file of its recording: blocks, the DC paths, quantizers, planes and pictures.
+// A function by its number in `calls`, and the file of its recording: blocks, the DC paths, quantizers, planes, pictures and deliveries.
 fn main() {
     recording::run(0, b"fb_predict");
     recording::run(1, b"fb_choose");
@@ -17,7 +17,7 @@ fn main() {
     recording::run(7, b"fb_luma_dc_values");
     recording::run(8, b"fb_chroma_dc_levels");
     recording::run(9, b"fb_chroma_dc_values");
-    recording::run(19, b"quantizer");
+    recording::run(20, b"quantizer");
     recording::run(10, b"fb_chroma_quantizer");
     recording::run(12, b"fb_promised_distance");
     recording::run(13, b"fb_code_plane");
@@ -25,4 +25,5 @@ fn main() {
     recording::run(15, b"fb_decode_plane");
     recording::run(17, b"fb_code_picture");
     recording::run(18, b"fb_decode_picture");
+    recording::run(19, b"fb_inspect");
 }

@@ -38,7 +38,7 @@ fn one_if(right: bool) -> usize
 
 // Reads a step: a place, a count, and so many bytes for there. With a count of 0 the frame is whole.
 fn completes(file: i32, frame: &mut [u8]) -> bool
-    requires { ⌜ length (now frame) ≡ 33766 ⌝ }
+    requires { ⌜ length (now frame) ≡ 36838 ⌝ }
 {
     let mut head = [0u8; 4];
     if io::read_full(file, &mut head) < 4 {
@@ -55,7 +55,7 @@ fn completes(file: i32, frame: &mut [u8]) -> bool
 
 // 1 if a whole frame's request is answered as recorded. One that is not is told by its number.
 fn tried(whole: bool, function: u8, frame: &[u8], name: &[u8], asked: usize) -> usize
-    requires { ⌜ length (now frame) ≡ 33766 ⌝ }
+    requires { ⌜ length (now frame) ≡ 36838 ⌝ }
     ensures { λ r. ⌜ r ≤ 1 ⌝ }
 {
     if !whole {

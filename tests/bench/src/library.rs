@@ -23,6 +23,12 @@ extern "C" {
         plane: *mut u8,
         plane_length: usize,
     ) -> u64;
+    fn fb_inspect(
+        file: *const u8,
+        file_length: usize,
+        theirs: *const u8,
+        theirs_length: usize,
+    ) -> u64;
     fn fb_code_picture(
         width: usize,
         height: usize,
@@ -125,6 +131,16 @@ impl Codec for Proved {
         // Each pointer comes with its slice's length.
         let word =
             unsafe { fb_decode_plane(file.as_ptr(), file.len(), plane.as_mut_ptr(), plane.len()) };
+        assert_eq!(word, 0);
+    }
+
+    fn inspections(&self) -> bool {
+        true
+    }
+
+    fn inspect(&self, file: &[u8], theirs: &[u8]) {
+        // Each pointer comes with its slice's length.
+        let word = unsafe { fb_inspect(file.as_ptr(), file.len(), theirs.as_ptr(), theirs.len()) };
         assert_eq!(word, 0);
     }
 
@@ -250,6 +266,14 @@ impl Codec for Study {
         assert_eq!(answer, 0);
     }
 
+    fn inspections(&self) -> bool {
+        false
+    }
+
+    fn inspect(&self, _: &[u8], _: &[u8]) {
+        unreachable!("it knows no inspection")
+    }
+
     fn colour(&self) -> bool {
         false
     }
@@ -297,6 +321,14 @@ impl Codec for Reference {
 
     fn decode(&self, file: &[u8], plane: &mut [u8]) {
         reference::decode_plane(file, plane).expect("the file is whole");
+    }
+
+    fn inspections(&self) -> bool {
+        true
+    }
+
+    fn inspect(&self, file: &[u8], theirs: &[u8]) {
+        reference::inspect(file, theirs).expect("the plane is the file's");
     }
 
     fn colour(&self) -> bool {

@@ -1,4 +1,4 @@
-//! Times coder and decoder on pictures of 128x128 macroblocks, one thread: the proved library, the unproved study of its speed where it
+//! Times coder, decoder and inspection on pictures of 128x128 macroblocks, one thread: the proved library, the unproved study of its speed where it
 //! is there, and the reference, all in one run. Their files and planes must be the same; the study knows 4x4 records and one slice only, and
 //! no colour.
 
@@ -46,6 +46,10 @@ trait Codec {
         rebuilt: &mut [u8],
     ) -> usize;
     fn decode(&self, file: &[u8], plane: &mut [u8]);
+    /// Whether it knows inspection.
+    fn inspections(&self) -> bool;
+    /// Of a delivery that is accepted.
+    fn inspect(&self, file: &[u8], theirs: &[u8]);
     /// Whether it knows colour.
     fn colour(&self) -> bool;
     fn code_picture(&self, picture: &Picture, area: &mut [u8], rebuilt: [&mut [u8]; 3]) -> usize;
@@ -135,7 +139,7 @@ struct Bench {
 /// A task that is timed; none for a codec that cannot do it.
 type Task = fn(&mut Bench, &dyn Codec) -> Option<Duration>;
 
-const TASKS: [(&str, Task); 8] = [
+const TASKS: [(&str, Task); 12] = [
     ("code", Bench::code_own),
     ("decode that", Bench::decode_own),
     ("code colour", Bench::code_colour),
@@ -144,13 +148,21 @@ const TASKS: [(&str, Task); 8] = [
     ("decode those", Bench::decode_slices),
     ("decode 4x4", Bench::decode_four),
     ("decode 16x16", Bench::decode_sixteen),
+    ("inspect that", Bench::inspect_own),
+    ("inspect colour", Bench::inspect_colour),
+    ("inspect 4x4", Bench::inspect_four),
+    ("inspect 16x16", Bench::inspect_sixteen),
 ];
 
 /// Tasks whose times are compared: the first divided by the second.
-const RATIOS: [(&str, &str); 3] = [
+const RATIOS: [(&str, &str); 7] = [
     ("code colour", "code"),
     ("decode colour", "decode that"),
     ("decode 16x16", "decode 4x4"),
+    ("inspect that", "decode that"),
+    ("inspect colour", "decode colour"),
+    ("inspect 4x4", "decode 4x4"),
+    ("inspect 16x16", "decode 16x16"),
 ];
 
 impl Bench {
@@ -275,6 +287,22 @@ impl Bench {
             .then(|| timed(codec, &self.sixteen, &mut self.decoded))
     }
 
+    fn inspect_own(&mut self, codec: &dyn Codec) -> Option<Duration> {
+        inspected(codec, &self.both.file, &self.both.rebuilt)
+    }
+
+    fn inspect_colour(&mut self, codec: &dyn Codec) -> Option<Duration> {
+        inspected(codec, &self.colour.file, &self.colour.rebuilt[0])
+    }
+
+    fn inspect_four(&mut self, codec: &dyn Codec) -> Option<Duration> {
+        inspected(codec, &self.four.file, &self.four.rebuilt)
+    }
+
+    fn inspect_sixteen(&mut self, codec: &dyn Codec) -> Option<Duration> {
+        inspected(codec, &self.sixteen.file, &self.sixteen.rebuilt)
+    }
+
     fn run(&mut self, codecs: &[Box<dyn Codec>]) {
         let mut best: [Vec<Option<Duration>>; TASKS.len()] =
             std::array::from_fn(|_| vec![None; codecs.len()]);
@@ -318,6 +346,16 @@ fn timed(codec: &dyn Codec, coded: &Coded, decoded: &mut [u8]) -> Duration {
     time
 }
 
+/// Inspects a file with its own plane, which must be accepted.
+fn inspected(codec: &dyn Codec, file: &[u8], theirs: &[u8]) -> Option<Duration> {
+    if !codec.inspections() {
+        return None;
+    }
+    let started = Instant::now();
+    codec.inspect(file, theirs);
+    Some(started.elapsed())
+}
+
 fn print_times(what: &str, codecs: &[Box<dyn Codec>], times: &[Option<Duration>]) {
     let own = times.last().copied().flatten();
     let own = own.expect("the proved library comes last, and does all");
@@ -325,7 +363,7 @@ fn print_times(what: &str, codecs: &[Box<dyn Codec>], times: &[Option<Duration>]
         let Some(time) = time else { continue };
         let seconds = time.as_secs_f64();
         println!(
-            "{what:<13} {:<14} {:6.1} ms, {:4.0} Mpixel/s, {:4.0} ns a block; proved library / this: {:.2}",
+            "{what:<14} {:<14} {:6.1} ms, {:4.0} Mpixel/s, {:4.0} ns a block; proved library / this: {:.2}",
             codec.name(),
             1e3 * seconds,
             SAMPLES as f64 / seconds / 1e6,

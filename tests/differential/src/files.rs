@@ -159,6 +159,16 @@ struct Files {
     largest: Vec<(Vec<u8>, Layout)>,
 }
 
+/// Whole files of all kinds.
+pub fn small_files() -> &'static [Vec<u8>] {
+    &files().small
+}
+
+/// Those of the largest pictures, with their layouts.
+pub fn largest_files() -> &'static [(Vec<u8>, Layout)] {
+    &files().largest
+}
+
 /// Made once. The small ones are most of 1x1 macroblock, some of up to 3x4 and a few of up to 5x9 in slices, of all QPs: every other one is
 /// what the coder makes of a picture, and the rest have records of drawn kinds, modes and levels. Half of them are colour.
 fn files() -> &'static Files {
@@ -198,7 +208,8 @@ fn files() -> &'static Files {
     })
 }
 
-fn coded(random: &mut Random, layout: Layout, qp: u8, colour: bool) -> Vec<u8> {
+/// What the coder makes of a drawn picture.
+pub fn coded(random: &mut Random, layout: Layout, qp: u8, colour: bool) -> Vec<u8> {
     let Layout {
         width,
         height,
@@ -575,7 +586,7 @@ pub fn records(file: &[u8]) -> Vec<(usize, Kind)> {
 }
 
 /// The sum of a record's earlier bytes into its last two.
-fn mend(record: &mut [u8]) {
+pub fn mend(record: &mut [u8]) {
     let end = record.len() - 2;
     let sum = record[..end]
         .iter()
@@ -584,7 +595,7 @@ fn mend(record: &mut [u8]) {
 }
 
 /// One of all kinds of damage. A file that an earlier one has left no record keeps its bytes.
-fn damage(random: &mut Random, file: &mut Vec<u8>) {
+pub fn damage(random: &mut Random, file: &mut Vec<u8>) {
     let records = records(file);
     if records.is_empty() {
         return;

@@ -2,6 +2,7 @@
 
 use crate::colour::{self, Named, Told};
 use crate::files::{listed_head, listed_wholes, other_values, records, Whole};
+use crate::inspection_kinds;
 use crate::picture_kinds;
 use crate::request::Argument::{self, Bytes, Number};
 use reference::extremes::dc_edges;
@@ -19,6 +20,7 @@ pub fn required(function: &str) -> Vec<String> {
             let lengths = picture_kinds::required_lengths();
             [required_of_decoding(true), lengths].concat()
         }
+        "fb_inspect" => inspection_kinds::required(),
         _ => vec![],
     }
 }
@@ -34,6 +36,7 @@ pub fn of(function: &str, word: u64, arguments: &[Argument]) -> Vec<String> {
             let lengths = picture_kinds::of_lengths(word, arguments);
             [of_decoding(word, arguments), lengths].concat()
         }
+        "fb_inspect" => inspection_kinds::of(word, arguments),
         _ => vec![],
     }
 }
@@ -175,7 +178,7 @@ const MARK: u64 = 11;
 const NUMBER: u64 = 12;
 const SUM: u64 = 13;
 
-fn told(what: String, (number, place): Told) -> String {
+pub fn told(what: String, (number, place): Told) -> String {
     format!("{what}: {number} at {place}")
 }
 
@@ -271,7 +274,7 @@ fn of_reading(word: u64, arguments: &[Argument]) -> Vec<String> {
     of_head(parts(word), file)
 }
 
-fn parts(word: u64) -> Told {
+pub fn parts(word: u64) -> Told {
     (word % 256, (word / 256) as usize)
 }
 

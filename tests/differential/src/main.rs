@@ -8,6 +8,8 @@ mod colour;
 mod distances;
 mod files;
 mod functions;
+mod inspection_kinds;
+mod inspections;
 mod kinds;
 mod peer;
 mod picture_kinds;

@@ -162,6 +162,13 @@ pub fn decode_picture(arguments: &mut [Argument]) -> Result<u64, Refusal> {
     crate::decode_picture(file, luma, cb, cr).map(u64::from)
 }
 
+pub fn inspect(arguments: &mut [Argument]) -> Result<u64, Refusal> {
+    let [Bytes(file), Bytes(theirs)] = arguments else {
+        unreachable!()
+    };
+    crate::inspect(file, theirs).map(|()| 0)
+}
+
 pub fn quality_sheet(arguments: &mut [Argument]) -> Result<u64, Refusal> {
     let [Number(width), Number(height), Bytes(original), Bytes(rebuilt), Bytes(map), Doubles(out)] =
         arguments

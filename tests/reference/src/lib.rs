@@ -10,6 +10,7 @@ pub mod calls;
 mod chroma;
 mod dc;
 pub mod extremes;
+mod inspection;
 mod macroblock;
 mod neighbours;
 mod picture;
@@ -27,6 +28,7 @@ pub use chroma::ChromaSads;
 pub use dc::{
     chroma_dc_levels, chroma_dc_values, luma_dc_levels, luma_dc_values, rescaled_luma_dc,
 };
+pub use inspection::inspect;
 pub use picture::{code_picture, code_picture_by, decode_picture, Picture};
 pub use plane::{code_plane, code_plane_by, decode_plane, Sads};
 pub use predict::{choose, predict, Choice, Mode};

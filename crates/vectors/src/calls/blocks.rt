@@ -5,7 +5,7 @@ use crate::calls::NEVER_SENT;
 use crate::frame;
 
 pub(crate) fn answered(function: u8, frame: &[u8]) -> bool
-    requires { ⌜ length (now frame) ≡ 33766 ⌝ }
+    requires { ⌜ length (now frame) ≡ 36838 ⌝ }
 {
     let wanted = frame::eight(frame, frame::WORD);
     let list = frame::numbers(&frame[frame::LIST..frame::MADE]);
@@ -20,7 +20,7 @@ pub(crate) fn answered(function: u8, frame: &[u8]) -> bool
 
 // The call, with slices of the frame's lengths.
 fn called(function: u8, frame: &[u8], list: &[i32], made: &mut [i32], out: &mut [u8]) -> u64
-    requires { ⌜ length (now frame) ≡ 33766 ⌝ }
+    requires { ⌜ length (now frame) ≡ 36838 ⌝ }
 {
     word(
         function,

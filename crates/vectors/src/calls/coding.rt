@@ -4,7 +4,7 @@ ghost use lib.ListN.{length};
 use crate::frame;
 
 pub(crate) fn plane_answered(frame: &[u8]) -> bool
-    requires { ⌜ length (now frame) ≡ 33766 ⌝ }
+    requires { ⌜ length (now frame) ≡ 36838 ⌝ }
 {
     let wanted = frame::eight(frame, frame::WORD);
     let mut out = [frame::BEFORE; frame::FILE];
@@ -20,7 +20,7 @@ pub(crate) fn plane_answered(frame: &[u8]) -> bool
 }
 
 fn of_plane(frame: &[u8], file: &mut [u8], rebuilt: &mut [u8]) -> u64
-    requires { ⌜ length (now frame) ≡ 33766 ⌝ }
+    requires { ⌜ length (now frame) ≡ 36838 ⌝ }
 {
     let size = frame::size_in(frame);
     fleecebutton::fb_code_plane(
@@ -35,7 +35,7 @@ fn of_plane(frame: &[u8], file: &mut [u8], rebuilt: &mut [u8]) -> u64
 }
 
 pub(crate) fn picture_answered(frame: &[u8]) -> bool
-    requires { ⌜ length (now frame) ≡ 33766 ⌝ }
+    requires { ⌜ length (now frame) ≡ 36838 ⌝ }
 {
     let wanted = frame::eight(frame, frame::WORD);
     let mut out = [frame::BEFORE; frame::FILE];
@@ -57,7 +57,7 @@ pub(crate) fn picture_answered(frame: &[u8]) -> bool
 }
 
 fn of_picture(frame: &[u8], file: &mut [u8], luma: &mut [u8], cb: &mut [u8], cr: &mut [u8]) -> u64
-    requires { ⌜ length (now frame) ≡ 33766 ⌝ }
+    requires { ⌜ length (now frame) ≡ 36838 ⌝ }
 {
     let size = frame::size_in(frame);
     let qp = frame[24];

@@ -8,7 +8,7 @@ use quantizer::Quantizer;
 use refusal::Refusal;
 
 pub(crate) fn answered(function: u8, frame: &[u8]) -> bool
-    requires { ⌜ length (now frame) ≡ 33766 ⌝ }
+    requires { ⌜ length (now frame) ≡ 36838 ⌝ }
 {
     let wanted = frame::eight(frame, frame::WORD);
     let list = frame::numbers(&frame[frame::LIST..frame::MADE]);
@@ -20,7 +20,7 @@ pub(crate) fn answered(function: u8, frame: &[u8]) -> bool
 
 // The call, with slices of the frame's lengths.
 fn called(function: u8, frame: &[u8], list: &[i32], made: &mut [i32]) -> u64
-    requires { ⌜ length (now frame) ≡ 33766 ⌝ }
+    requires { ⌜ length (now frame) ≡ 36838 ⌝ }
 {
     let first = frame[0];
     let list = frame::numbers_in(frame, 3, list);
@@ -34,7 +34,7 @@ fn called(function: u8, frame: &[u8], list: &[i32], made: &mut [i32]) -> u64
         9 => fleecebutton::fb_chroma_dc_values(first, list, made),
         10 => fleecebutton::fb_chroma_quantizer(first, frame::signed(frame, 8)),
         12 => fleecebutton::fb_promised_distance(first),
-        19 => of_quantizer(Quantizer::new(first)),
+        20 => of_quantizer(Quantizer::new(first)),
         _ => NEVER_SENT,
     }
 }

@@ -55,53 +55,19 @@ four-requires-3 c κs =
     let s = f .before .before .before in
     rw (c .has-left .ensures, f .first-place .ensures, s .pre .1) (reach-left (s .pre .0))
 
-array-read-t16 : tie.Need-array-read-t16
-array-read-t16 c = search needs
-
-array-read-t19 : tie.Need-array-read-t19
-array-read-t19 c = search needs
-
-array-read-t22 : tie.Need-array-read-t22
-array-read-t22 c = search needs
-
-array-read-t25 : tie.Need-array-read-t25
-array-read-t25 c = search needs
-
-array-read-t28 : tie.Need-array-read-t28
-array-read-t28 c = search needs
-
-array-read-t31 : tie.Need-array-read-t31
-array-read-t31 c = search needs
-
-array-read-t34 : tie.Need-array-read-t34
-array-read-t34 c = search needs
-
-array-read-t37 : tie.Need-array-read-t37
-array-read-t37 c = search needs
-
-array-read-t40 : tie.Need-array-read-t40
-array-read-t40 c = search needs
-
-array-read-t43 : tie.Need-array-read-t43
-array-read-t43 c = search needs
-
-array-read-t46 : tie.Need-array-read-t46
-array-read-t46 c = search needs
-
-array-read-t49 : tie.Need-array-read-t49
-array-read-t49 c = search needs
-
 returns : tie.Need-returns
 unfolding tab
 returns c =
-    let left = c .before in
+    let last = c .before in
+    let left = last .before in
     let right = left .before .before in
     let above = right .before .before in
     let corner = above .before .before in
     let f = corner .before in
     let s = f .before .before .before in
     rw (
-      c .four3 .ensures,
+      c .in-order .ensures,
+      last .four3 .ensures,
       left .before .four2 .ensures,
       right .before .four .ensures,
       above .before .sample .ensures,
@@ -129,16 +95,5 @@ gather-spec =
     four-requires-2
     has-left-requires
     four-requires-3
-    array-read-t16
-    array-read-t19
-    array-read-t22
-    array-read-t25
-    array-read-t28
-    array-read-t31
-    array-read-t34
-    array-read-t37
-    array-read-t40
-    array-read-t43
-    array-read-t46
-    array-read-t49
+    (λ c κs. search needs)
     returns)

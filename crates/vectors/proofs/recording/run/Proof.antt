@@ -8,7 +8,7 @@ use Rattle.vectors.proofs.recording.run.Tie as tie
 
 abbrev Inv-loop : tie.InvT-loop
 Inv-loop function name file steps frame₀ asked₀ right₀ step₀ frame asked right step =
-    (step ≤ steps) × (asked ≤ step) × (right ≤ step) × (length frame ≡ 33766)
+    (step ≤ steps) × (asked ≤ step) × (right ≤ step) × (length frame ≡ 36838)
 
 abbrev μ-loop : tie.MeasureT-loop
 μ-loop function name file steps frame₀ asked₀ right₀ step₀ frame asked right step = steps - step

@@ -11,14 +11,14 @@ const WORD: Range<usize> = 48..56;
 const LENGTHS: Range<usize> = 56..74;
 const LIST: Range<usize> = 74..142;
 const MADE: Range<usize> = 142..210;
-const SECOND: Range<usize> = 210..1234;
-const THIRD: Range<usize> = 1234..2258;
-const FIRST: Range<usize> = 2258..14940;
-const OUT: Range<usize> = 14940..27622;
-const MORE: Range<usize> = 27622..31718;
-const EXTRA: Range<usize> = 31718..32742;
-const LAST: Range<usize> = 32742..33766;
-const END: usize = 33766;
+const SECOND: Range<usize> = 210..4306;
+const THIRD: Range<usize> = 4306..5330;
+const FIRST: Range<usize> = 5330..18012;
+const OUT: Range<usize> = 18012..30694;
+const MORE: Range<usize> = 30694..34790;
+const EXTRA: Range<usize> = 34790..35814;
+const LAST: Range<usize> = 35814..36838;
+const END: usize = 36838;
 
 /// The rooms of the bytes lent, and of the bytes expected, each with the number of its length.
 const BYTES_LENT: [(usize, Range<usize>); 3] = [(0, FIRST), (1, SECOND), (2, THIRD)];

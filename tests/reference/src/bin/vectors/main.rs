@@ -6,6 +6,7 @@
 
 mod blocks;
 mod frame;
+mod inspections;
 mod numbers;
 mod pictures;
 mod planes;
@@ -36,7 +37,7 @@ const fn function(
     }
 }
 
-const ALL: [Function; 19] = [
+const ALL: [Function; 20] = [
     function("fb_predict", 1, calls::predict, blocks::predict),
     function("fb_choose", 1, calls::choose, blocks::choose),
     function("fb_forward", 1, calls::forward, numbers::forward),
@@ -105,6 +106,7 @@ const ALL: [Function; 19] = [
         calls::decode_picture,
         pictures::decode_picture,
     ),
+    function("fb_inspect", 0, calls::inspect, inspections::inspect),
     function("quantizer", 0, numbers::quantizer, numbers::every_byte),
 ];
 

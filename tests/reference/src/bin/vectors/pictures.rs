@@ -211,7 +211,7 @@ pub fn decode_picture() -> Vec<Vec<Argument>> {
         left(reference::calls::decode_picture, &request, &planes);
         request
     });
-    let files = [order(), behind_one_macroblock(), contents()].concat();
+    let files = refused_files();
     [
         lengths(),
         refused_first(changed_and_cut("colour/random-02").into_iter()),
@@ -224,11 +224,15 @@ pub fn decode_picture() -> Vec<Vec<Argument>> {
     .concat()
 }
 
+/// Files of which most are refused for a chroma record.
+pub fn refused_files() -> Vec<Vec<u8>> {
+    [order(), behind_one_macroblock(), contents()].concat()
+}
+
 /// The same files for `fb_decode_plane`, which gives luma alone: the outside's, and those that chroma is refused in.
 pub fn decode_luma() -> Vec<Vec<Argument>> {
     let luma = |request: Vec<Argument>| request[..2].to_vec();
-    let files = [order(), behind_one_macroblock(), contents()].concat();
-    let files = files.into_iter().map(decoding).map(luma);
+    let files = refused_files().into_iter().map(decoding).map(luma);
     let as_outside = names(COLOUR, "rec").into_iter().map(|name| {
         let request = luma(decoding(outside(&name, "rec")));
         let Bytes(plane) = &request[1] else {
