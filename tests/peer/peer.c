@@ -2,16 +2,19 @@
  *
  * A request on standard input is a head (function, and the size of what follows, 32 bits each) and arguments; everything starts
  * at a multiple of 8 bytes, low byte first. A number has 8 bytes, and so has a double. A slice is its number of elements in
- * 8 bytes, then the elements, then bytes up to the next multiple of 8.
+ * 8 bytes, then the elements, then bytes up to the next multiple of 8, then GUARD bytes.
  *
  * The answer on standard output is the word in 8 bytes, then the arguments as the call left them, all of them: so the caller
- * sees what became of outputs, of inputs and of what stands between the slices. */
+ * sees what became of outputs, of inputs and of what stands between the slices, the guards among it. */
 #include <stddef.h>
 #include <stdint.h>
 #include <string.h>
 #include <unistd.h>
 
 #include "fleecebutton.h"
+
+/* Bytes behind each slice, a multiple of 8; they are the caller's, who has them back as the call left them. */
+enum { GUARD = 64 };
 
 /* Room for the arguments of the largest picture: three planes of 128x128 macroblocks, the rebuilt ones and the file. */
 static uint64_t arguments[(26 << 20) / 8];
@@ -95,21 +98,21 @@ static int64_t number(void) { return (int64_t)arguments[next++]; }
 static struct bytes bytes(void) {
     size_t length = (size_t)number();
     struct bytes slice = {(uint8_t *)(arguments + next), length};
-    next += (length + 7) / 8;
+    next += (length + 7 + GUARD) / 8;
     return slice;
 }
 
 static struct numbers numbers(void) {
     size_t length = (size_t)number();
     struct numbers slice = {(int32_t *)(arguments + next), length};
-    next += (4 * length + 7) / 8;
+    next += (4 * length + 7 + GUARD) / 8;
     return slice;
 }
 
 static struct doubles doubles(void) {
     size_t length = (size_t)number();
     struct doubles slice = {(double *)(arguments + next), length};
-    next += length;
+    next += length + GUARD / 8;
     return slice;
 }
 

@@ -1,66 +1,27 @@
-//! Colour files that must be among the cases, each with the number and the place of the word that it must come to: these are told by the
-//! fields of a file, and not by the reference.
+//! Colour files that have names.
 
+use crate::limits::range_ends;
+use crate::named::{Named, Told, COLOUR, FORM, MARK, MODE, MONO, NUMBER, QUANTIZER, RANGE};
 use crate::pictures::OFFSETS;
+use reference::chroma_quantizer;
 use reference::extremes::{chroma_dc_edges, chroma_dc_levels_at};
 use reference::record::{
     self, Chroma, ChromaLevels, Four, Head, Kind, Layout, Luma, Macroblock, Sixteen,
 };
-use reference::{chroma_quantizer, Quantizer};
-use std::collections::HashMap;
-use std::sync::OnceLock;
 
-/// A word's low byte, and what stands above it.
-pub type Told = (u64, usize);
-
-/// What a file of which all is in order comes to, in `fb_decode_picture`.
-const MONO: Told = (0, 0);
-const COLOUR: Told = (0, 1);
-
-const QUANTIZER: u64 = 2;
-const MODE: u64 = 3;
-const RANGE: u64 = 6;
-const FORM: u64 = 9;
-const MARK: u64 = 11;
-const NUMBER: u64 = 12;
-
-pub struct Named {
-    pub name: String,
-    pub file: Vec<u8>,
-    pub layout: Layout,
-    pub told: Told,
-}
-
-/// Made once.
-pub fn named() -> &'static [Named] {
-    static NAMED: OnceLock<Vec<Named>> = OnceLock::new();
-    NAMED.get_or_init(|| {
-        let mut named = vec![];
-        for rows in [1, 2] {
-            named.extend(order(rows));
-            named.extend(modes(rows));
-        }
-        named.extend(behind_one_macroblock());
-        named.extend(offsets());
-        named.extend(ranges());
-        named.extend(dc_ends());
-        named.extend(ac_ends());
-        named.extend(content_order());
-        named
-    })
-}
-
-/// The names that a file has.
-pub fn names_of(file: &[u8]) -> impl Iterator<Item = &'static str> {
-    static BY_FILE: OnceLock<HashMap<&[u8], Vec<&str>>> = OnceLock::new();
-    let by_file = BY_FILE.get_or_init(|| {
-        let mut by_file: HashMap<&[u8], Vec<&str>> = HashMap::new();
-        for Named { name, file, .. } in named() {
-            by_file.entry(file).or_default().push(name);
-        }
-        by_file
-    });
-    by_file.get(file).into_iter().flatten().copied()
+pub fn files() -> Vec<Named> {
+    let mut named = vec![];
+    for rows in [1, 2] {
+        named.extend(order(rows));
+        named.extend(modes(rows));
+    }
+    named.extend(behind_one_macroblock());
+    named.extend(offsets());
+    named.extend(ranges());
+    named.extend(dc_ends());
+    named.extend(ac_ends());
+    named.extend(content_order());
+    named
 }
 
 // ---- the ground that they are made of
@@ -444,30 +405,19 @@ fn dc_ends() -> Vec<Named> {
     named
 }
 
-/// The same of AC levels, of a place of each class.
+/// The same of AC levels, at every place.
 fn ac_ends() -> Vec<Named> {
     let mut named = vec![];
-    for quantizer in 0..=39 {
-        let scales = Quantizer::new(quantizer).expect("it is one").scales();
-        // In zigzag order without the first: the raster places 8, 5 and 1, of the classes a, b and c.
-        for (index, scale) in [2, 3, 0].into_iter().zip(scales) {
-            let ends = [
-                -32768 / scale - 1,
-                -32768 / scale,
-                32767 / scale,
-                32767 / scale + 1,
-            ];
-            for level in ends {
-                for plane in 0..2 {
-                    let block = (usize::from(quantizer) + index) % 4;
-                    let mut ac = [[0; 15]; 4];
-                    ac[block][index] = level as i16;
-                    let levels = ChromaLevels { dc: [0; 4], ac };
-                    let legal = i16::try_from(level * scale).is_ok();
-                    let what = format!("an AC value of {}, class {index}", level * scale);
-                    let number = (block + plane) % 4;
-                    named.push(alone(what, quantizer, plane, number, legal, levels));
-                }
+    for (quantizer, index) in (0..=39).flat_map(|it| (1..16).map(move |index| (it, index))) {
+        for (level, legal) in range_ends(quantizer, index) {
+            for plane in 0..2 {
+                let block = (usize::from(quantizer) + index) % 4;
+                let mut ac = [[0; 15]; 4];
+                ac[block][index - 1] = level as i16;
+                let levels = ChromaLevels { dc: [0; 4], ac };
+                let what = format!("an AC level of {level} at {index} of block {block}");
+                let number = (block + plane) % 4;
+                named.push(alone(what, quantizer, plane, number, legal, levels));
             }
         }
     }

@@ -5,18 +5,19 @@ use crate::functions::{self, Function};
 use crate::peer;
 use crate::random::Random;
 use crate::request::Argument::{self, Bytes, Number, Numbers};
-use reference::{calls, Quantizer};
+use reference::Quantizer;
 use std::fmt::Write;
 
 const QPS: usize = 52;
 
-const BLOCKS: Function = Function {
-    name: "fb_code_block",
-    cases: QPS * 20_000,
-    outcomes: &[0],
-    make: block,
-    call: calls::code_block,
-};
+fn blocks() -> Function {
+    Function {
+        cases: QPS * 20_000,
+        outcomes: &[0],
+        make: block,
+        ..functions::ALL[functions::number("fb_code_block") as usize]
+    }
+}
 
 /// A line for each QP: what the library promises, and the largest distance of all blocks before the clip and after it. A distance
 /// above the promise is a fault.
@@ -29,7 +30,7 @@ pub fn table(command: &[String]) -> Result<String, String> {
         }
     })?;
     let mut farthest = [[0; 2]; QPS];
-    peer::compare(command, &BLOCKS, |word, arguments| {
+    peer::compare(command, &blocks(), |word, arguments| {
         let (qp, seen) = distances(word, arguments);
         for (largest, distance) in farthest[qp].iter_mut().zip(seen) {
             *largest = distance.max(*largest);

@@ -2,10 +2,12 @@
 //! damaged in every field, with the sum mended or not.
 
 use crate::colour;
+use crate::named::{named, Told};
 use crate::pictures::{self, OFFSETS};
 use crate::planes::{held, LARGEST};
 use crate::random::Random;
 use crate::request::Argument::{self, Bytes};
+use crate::sizes;
 use reference::extremes::{dc_edges, dc_levels_at};
 use reference::record::{
     self, Chroma, ChromaLevels, Four, Head, Kind, Layout, Luma, Macroblock, Sixteen,
@@ -99,7 +101,8 @@ fn changed(file: &[u8], place: usize, value: u8) -> Vec<u8> {
     file
 }
 
-/// The listed files first, then small ones, mostly damaged, and some of the largest last; planes that hold anything.
+/// The listed files first, then small ones, mostly damaged, and some of the largest last, one of which is refused; planes that hold
+/// anything.
 pub const CASES: usize = 200_000;
 
 pub fn decode_plane(random: &mut Random, case: usize) -> Vec<Argument> {
@@ -123,8 +126,12 @@ struct Chosen {
 /// The lengths are those of the file's layout; now and then one of the first so many planes has another.
 fn chosen(random: &mut Random, case: usize, planes: usize) -> Chosen {
     let files = files();
-    let (file, layout) = match case.checked_sub(CASES - files.largest.len()) {
-        Some(which) => files.largest[which].clone(),
+    let (file, layout) = match case.checked_sub(CASES - 1 - files.largest.len()) {
+        Some(0) => {
+            let (file, _, layout) = refused_largest(planes == 3);
+            (file.clone(), *layout)
+        }
+        Some(which) => files.largest[which - 1].clone(),
         None => match files.listed.get(case) {
             Some(listed) => listed.clone(),
             None => return small(random, &files.small, planes),
@@ -167,6 +174,20 @@ pub fn small_files() -> &'static [Vec<u8>] {
 /// Those of the largest pictures, with their layouts.
 pub fn largest_files() -> &'static [(Vec<u8>, Layout)] {
     &files().largest
+}
+
+/// One of those of the largest pictures, with its last record refused: the colour one, or the mono one.
+pub fn refused_largest(colour: bool) -> &'static (Vec<u8>, Told, Layout) {
+    static REFUSED: OnceLock<Vec<(Vec<u8>, Told, Layout)>> = OnceLock::new();
+    let both = REFUSED.get_or_init(|| {
+        let largest = largest_files().iter();
+        let refused = largest.map(|(file, layout)| {
+            let (file, told) = sizes::spoiled(file, 2);
+            (file, told, *layout)
+        });
+        refused.collect()
+    });
+    &both[usize::from(!colour)]
 }
 
 /// Made once. The small ones are most of 1x1 macroblock, some of up to 3x4 and a few of up to 5x9 in slices, of all QPs: every other one is
@@ -411,7 +432,7 @@ fn listed() -> Vec<(Vec<u8>, Layout)> {
     let files = files
         .chain(rest)
         .map(|file| (file, Layout::one_slice(2, 2)));
-    let named = colour::named().iter();
+    let named = named().iter();
     let named = named.map(|named| (named.file.clone(), named.layout));
     files.chain(named).collect()
 }

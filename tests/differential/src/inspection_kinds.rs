@@ -2,6 +2,7 @@
 
 use crate::inspections::{self, Named, WAYS};
 use crate::kinds::{parts, told};
+use crate::reasons;
 use crate::request::Argument::{self, Bytes};
 use reference::decode_plane;
 use reference::record::{read_head, read_records, Layout};
@@ -51,7 +52,8 @@ pub fn required() -> Vec<String> {
         LAST_SAMPLE,
         LARGEST,
     ];
-    let others = others.into_iter().chain(WHERE).map(str::to_owned);
+    let others = others.into_iter().chain(WHERE).chain(reasons::ALL);
+    let others = others.map(str::to_owned);
     named
         .chain(positions)
         .chain(small)
@@ -78,6 +80,7 @@ pub fn of(word: u64, arguments: &[Argument]) -> Vec<String> {
     let mut kinds: Vec<String> = names
         .map(|name| told(name.to_owned(), parts(word)))
         .collect();
+    kinds.extend(reasons::of(parts(word), file).map(str::to_owned));
     match (word % 256, read_head(file)) {
         (0, Ok(layout)) => {
             let macroblocks = read_records(file, layout.macroblocks()).expect("it is accepted");

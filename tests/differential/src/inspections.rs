@@ -2,11 +2,13 @@
 //! and files that a decoder refuses, with planes of either kind. Those that have names come with the number and the place of the word that
 //! they must come to: these are told by the fields of a file and the samples that are changed, and not by the reference.
 
-use crate::colour::Told;
 use crate::files::{damage, largest_files, listed_wholes, mend, records, small_files};
+use crate::limits;
+use crate::named::{self, Told, DIFFERS, FORM, MARK, MODE, NUMBER, QUANTIZER, RANGE, SIZE, SUM};
 use crate::planes::held;
 use crate::random::Random;
 use crate::request::Argument::{self, Bytes};
+use crate::sizes::{self, Pair};
 use reference::decode_plane;
 use reference::record::{read_head, Head, Kind, Layout};
 use std::collections::HashMap;
@@ -15,15 +17,6 @@ use std::sync::OnceLock;
 /// Every sample of two pictures changed, then those that have names, then drawn ones, and four of the largest last.
 pub const CASES: usize = 120_000;
 
-const QUANTIZER: u64 = 2;
-const MODE: u64 = 3;
-const RANGE: u64 = 6;
-const SIZE: u64 = 8;
-const FORM: u64 = 9;
-const MARK: u64 = 11;
-const NUMBER: u64 = 12;
-const SUM: u64 = 13;
-const DIFFERS: u64 = 17;
 const ACCEPTED: Told = (0, 0);
 const LENGTH: Told = (1, 0);
 
@@ -141,6 +134,8 @@ pub fn named() -> &'static [Named] {
             lengths(delivery, &mut of);
         }
         named.extend(exchanged(wholes.each_ref().map(|it| it.name), &deliveries));
+        named.extend(sizes::pairs().iter().flat_map(of_size));
+        named.extend(limits::files().into_iter().map(at_limit));
         named
     })
 }
@@ -367,6 +362,51 @@ fn exchanged(names: [&str; 4], deliveries: &[Delivery; 4]) -> Vec<Named> {
     }
     assert!(!named.is_empty(), "the listed files have one plane");
     named
+}
+
+/// A file that is accepted or refused by RANGE at its limit, with its plane; one that has none comes with some other.
+fn at_limit(file: named::Named) -> Named {
+    let mut theirs = vec![77; file.layout.samples()];
+    let plane = decode_plane(&file.file, &mut theirs);
+    assert_eq!(plane.is_ok(), file.told == ACCEPTED, "{}", file.name);
+    Named {
+        name: file.name,
+        told: file.told,
+        delivery: Delivery {
+            file: file.file,
+            theirs,
+        },
+    }
+}
+
+/// A picture of another size as it is delivered, with its last sample another, and with its last record refused.
+fn of_size(pair: &Pair) -> [Named; 3] {
+    let right = Delivery::of(pair.whole.file.clone());
+    let layout = pair.whole.layout;
+    let last = layout.macroblocks() - 1;
+    let other = right.with_others(layout.width, &[(last, 255)], 1);
+    let refused = Delivery {
+        file: pair.refused.file.clone(),
+        theirs: right.theirs.clone(),
+    };
+    let name = &pair.whole.name;
+    [
+        Named {
+            name: format!("{name} with its plane"),
+            delivery: right,
+            told: ACCEPTED,
+        },
+        Named {
+            name: format!("{name} with its last sample another"),
+            delivery: other,
+            told: (DIFFERS, 256 * last + 255),
+        },
+        Named {
+            name: pair.refused.name.clone(),
+            delivery: refused,
+            told: pair.refused.told,
+        },
+    ]
 }
 
 /// The samples in which two planes differ, macroblock after macroblock and row after row.

@@ -1,10 +1,13 @@
 //! Kinds of cases that must come beside the outcomes: what the coder chose and left, and what a head or a file was read as or refused for.
 
-use crate::colour::{self, Named, Told};
-use crate::files::{listed_head, listed_wholes, other_values, records, Whole};
+use crate::files::{listed_head, listed_wholes, other_values, records, refused_largest, Whole};
 use crate::inspection_kinds;
+use crate::limits;
+use crate::named::{self, Named, Told, FORM, MARK, NUMBER, SUM};
 use crate::picture_kinds;
+use crate::reasons;
 use crate::request::Argument::{self, Bytes, Number};
+use crate::sizes;
 use reference::extremes::dc_edges;
 use reference::record::{self, Broken, Fault, Head, Kind, Layout, Luma, Macroblock, Sixteen};
 use reference::{code_plane_by, rebuild_with_dc, rescaled_luma_dc, Sads};
@@ -21,7 +24,19 @@ pub fn required(function: &str) -> Vec<String> {
             [required_of_decoding(true), lengths].concat()
         }
         "fb_inspect" => inspection_kinds::required(),
-        _ => vec![],
+        "fb_quality_sheet" => sizes::required_of_sheets(),
+        _ => {
+            let limits = limits::of(function).iter();
+            limits.map(|it| told(it.name.clone(), it.told)).collect()
+        }
+    }
+}
+
+/// Those of them of which it is told how often each came.
+pub fn counted(function: &str) -> &'static [&'static str] {
+    match function {
+        "fb_decode_plane" | "fb_decode_picture" | "fb_inspect" => &reasons::ALL,
+        _ => &[],
     }
 }
 
@@ -37,8 +52,21 @@ pub fn of(function: &str, word: u64, arguments: &[Argument]) -> Vec<String> {
             [of_decoding(word, arguments), lengths].concat()
         }
         "fb_inspect" => inspection_kinds::of(word, arguments),
-        _ => vec![],
+        "fb_quality_sheet" => of_sheet(word, arguments),
+        _ => {
+            let name = limits::name_of(function, arguments);
+            let told = name.map(|name| told(name.to_owned(), parts(word)));
+            told.into_iter().collect()
+        }
     }
+}
+
+fn of_sheet(word: u64, arguments: &[Argument]) -> Vec<String> {
+    let [Number(width), Number(height), ..] = arguments else {
+        unreachable!()
+    };
+    let kind = sizes::of_sheet(word, *width as usize, *height as usize);
+    kind.into_iter().collect()
 }
 
 // ---- slices
@@ -105,6 +133,7 @@ fn required_of_coding() -> Vec<String> {
         .chain(named)
         .chain(Head::ALL.map(other_area))
         .chain(every_slicing(5))
+        .chain(sizes::required_of_coding())
         .collect()
 }
 
@@ -125,7 +154,7 @@ fn of_coding(word: u64, arguments: &[Argument]) -> Vec<String> {
     match word % 256 {
         0 | 1 => {}
         8 => return of_bad_rows(layout),
-        _ => return vec![],
+        _ => return sizes::of_coding(word, layout).into_iter().collect(),
     }
     let mut kinds = vec![];
     let watched = |sads: &Sads| {
@@ -138,6 +167,7 @@ fn of_coding(word: u64, arguments: &[Argument]) -> Vec<String> {
     match (used, word % 256) {
         (Ok(used), 0) => {
             kinds.extend(of_slicing(layout));
+            kinds.extend(sizes::of_coding(word, layout));
             kinds.extend((used < area.len()).then(|| REST.to_owned()));
             kinds
         }
@@ -172,11 +202,6 @@ pub fn of_choice(sads: &Sads) -> Vec<String> {
 }
 
 // ---- what is broken in a file (request 03)
-
-const FORM: u64 = 9;
-const MARK: u64 = 11;
-const NUMBER: u64 = 12;
-const SUM: u64 = 13;
 
 pub fn told(what: String, (number, place): Told) -> String {
     format!("{what}: {number} at {place}")
@@ -368,14 +393,18 @@ fn ac(block: usize) -> String {
     format!("AC out of range in block {block} of 16x16")
 }
 
+fn largest(by: Told) -> String {
+    told("a picture of the largest size".to_owned(), by)
+}
+
 fn dc(qp: u8, value: i64) -> String {
     format!("a DC value of {value} at QP {qp}")
 }
 
-/// The colour files that have names come to the words that they must; where no value says that a file is colour, to that of a mono one.
+/// The files that have names come to the words that they must; where no value says that a file is colour, to that of a mono one.
 fn required_of_decoding(says_colour: bool) -> Vec<String> {
-    let named = colour::named().iter();
-    let colour_files = named.map(|Named { name, told: by, .. }| match by {
+    let named = named::named().iter();
+    let named_files = named.map(|Named { name, told: by, .. }| match by {
         (0, _) if !says_colour => told(name.clone(), (0, 0)),
         _ => told(name.clone(), *by),
     });
@@ -402,9 +431,11 @@ fn required_of_decoding(says_colour: bool) -> Vec<String> {
         .into_iter()
         .flat_map(|block| NEED_ABOVE.map(|mode| lacks_in(block, mode)));
     let edges = (0..=51).flat_map(|qp| edges(qp).map(|value| dc(qp, value)));
-    let named = [BOTH, DC_AND_AC, MODE_4, ABOVE_4].map(str::to_owned);
+    let named = [BOTH, DC_AND_AC, MODE_4, ABOVE_4].into_iter();
+    let named = named.chain(reasons::ALL).map(str::to_owned);
+    let largest = largest(refused_largest(says_colour).1);
     listed
-        .chain(colour_files)
+        .chain(named_files)
         .chain(required_of_heads())
         .chain(every_slicing(4))
         .chain(across)
@@ -415,6 +446,7 @@ fn required_of_decoding(says_colour: bool) -> Vec<String> {
         .chain((0..16).map(ac))
         .chain(edges)
         .chain(named)
+        .chain([largest])
         .collect()
 }
 
@@ -455,11 +487,13 @@ fn of_decoding(word: u64, arguments: &[Argument]) -> Vec<String> {
     };
     let (number, place) = parts(word);
     let mut kinds = of_the_listed((number, place), file);
-    kinds.extend(colour::names_of(file).map(|name| told(name.to_owned(), (number, place))));
+    kinds.extend(named::names_of(file).map(|name| told(name.to_owned(), (number, place))));
+    kinds.extend(reasons::of((number, place), file).map(str::to_owned));
     kinds.extend(of_head((number, place), file));
     let Ok(layout) = record::read_head(file) else {
         return kinds;
     };
+    kinds.extend((layout.macroblocks() == 16384).then(|| largest((number, place))));
     match (record::read_records(file, layout.macroblocks()), number) {
         (_, 1) => {}
         (Err(broken), _) => kinds.push(of_broken(number, file, broken)),

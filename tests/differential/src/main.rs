@@ -11,13 +11,17 @@ mod functions;
 mod inspection_kinds;
 mod inspections;
 mod kinds;
+mod limits;
+mod named;
 mod peer;
 mod picture_kinds;
 mod pictures;
 mod planes;
 mod random;
+mod reasons;
 mod request;
 mod sheets;
+mod sizes;
 
 use std::collections::BTreeMap;
 use std::env;
@@ -97,8 +101,21 @@ fn all_kinds_seen(
         None => Ok(String::new()),
         Some((0, kind)) => Err(format!("no input of these was of the kind: {kind}")),
         Some((count, kind)) => Ok(format!(
-            "; all of {} kinds of cases, the rarest {count} times ({kind})",
-            required.len()
+            "; all of {} kinds of cases, the rarest {count} times ({kind}){}",
+            required.len(),
+            each_counted(function, seen)
         )),
+    }
+}
+
+/// How often each of those came that are counted by themselves, as text.
+fn each_counted(function: &functions::Function, seen: &BTreeMap<String, usize>) -> String {
+    let counted = kinds::counted(function.name).iter();
+    let counts: Vec<String> = counted
+        .map(|&kind| format!("{} {kind}", seen.get(kind).copied().unwrap_or(0)))
+        .collect();
+    match counts.is_empty() {
+        true => String::new(),
+        false => format!("; of what is broken in a file {}", counts.join(", ")),
     }
 }

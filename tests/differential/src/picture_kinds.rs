@@ -5,6 +5,7 @@ use crate::kinds::{
 };
 use crate::pictures::{BAD_OFFSETS, SLICES};
 use crate::request::Argument::{self, Bytes, Number};
+use crate::sizes;
 use reference::record::{self, Head, Layout};
 use reference::{code_picture_by, ChromaSads, Picture, Sads};
 
@@ -68,6 +69,7 @@ pub fn required_of_coding() -> Vec<String> {
         .chain((0..4).map(coded))
         .chain(Head::ALL.map(other_area))
         .chain(every_slicing(4))
+        .chain(sizes::required_of_coding())
         .collect()
 }
 
@@ -83,12 +85,14 @@ pub fn of_coding(word: u64, arguments: &[Argument]) -> Vec<String> {
     };
     let offsets = [numbers[4], numbers[5]];
     let slices: Vec<&[u8]> = slices.iter().map(bytes).collect();
-    match word % 256 {
+    let mut kinds = match word % 256 {
         0 => of_coded(layout, numbers[3] as u8, offsets, &slices),
         1 => of_wrong_length(layout, numbers[3] as u8, offsets, &slices),
         2 => of_quantizer(numbers[3], offsets),
         _ => of_bad_rows(layout),
-    }
+    };
+    kinds.extend(sizes::of_coding(word, layout));
+    kinds
 }
 
 fn number(argument: &Argument) -> i64 {

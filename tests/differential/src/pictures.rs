@@ -3,6 +3,7 @@
 use crate::planes::{held, plane, LARGEST};
 use crate::random::Random;
 use crate::request::Argument::{self, Bytes, Number};
+use crate::sizes;
 use reference::record::{Head, Layout};
 use std::sync::OnceLock;
 
@@ -107,6 +108,7 @@ struct Listed(Layout, Wrong);
 
 /// Small sizes with every number of rows up to one above the height, with 65535 and with the greatest: each with an area for either head,
 /// and with a QP that is none. A picture in one slice and one in two, with every slice one off and empty, and with every offset that is none.
+/// Then sizes in between, with a QP that is one and with one that is none.
 fn listed() -> &'static [Listed] {
     static LISTED: OnceLock<Vec<Listed>> = OnceLock::new();
     LISTED.get_or_init(|| {
@@ -143,6 +145,9 @@ fn listed() -> &'static [Listed] {
             });
             listed.extend(legal);
             listed.push(Listed(layout, Wrong::Nothing));
+        }
+        for &layout in sizes::layouts() {
+            listed.extend([Wrong::Nothing, Wrong::Qp(false)].map(|it| Listed(layout, it)));
         }
         listed
     })

@@ -2,6 +2,7 @@
 
 use crate::random::Random;
 use crate::request::Argument::{self, Bytes, Number};
+use crate::sizes;
 use reference::record::{Head, Layout};
 use std::sync::OnceLock;
 
@@ -33,8 +34,10 @@ struct Call {
 pub fn code_plane(random: &mut Random, case: usize) -> Vec<Argument> {
     let call = match case.checked_sub(CASES - LARGEST.len()) {
         Some(which) => good(random, LARGEST[which]),
-        None if case < listed().len() => listed_call(random, &listed()[case]),
-        None => drawn(random),
+        None => match listed().get(case) {
+            Some(listed) => listed_call(random, listed),
+            None => drawn(random),
+        },
     };
     let Layout {
         width,
@@ -62,7 +65,7 @@ fn good(random: &mut Random, layout: Layout) -> Call {
 struct Listed(Layout, Head, bool);
 
 /// Small sizes with every number of rows up to one above the height, with 65535 and with the greatest: each with an area for either head,
-/// and with a QP that is none.
+/// and with a QP that is none. Then sizes in between, with a QP that is one and with one that is none.
 fn listed() -> &'static [Listed] {
     static LISTED: OnceLock<Vec<Listed>> = OnceLock::new();
     LISTED.get_or_init(|| {
@@ -78,6 +81,9 @@ fn listed() -> &'static [Listed] {
                 listed.extend(Head::ALL.map(|head| Listed(layout, head, true)));
                 listed.push(Listed(layout, layout.head(), false));
             }
+        }
+        for &layout in sizes::layouts() {
+            listed.extend([true, false].map(|legal| Listed(layout, layout.head(), legal)));
         }
         listed
     })

@@ -3,8 +3,9 @@
 use crate::planes;
 use crate::random::Random;
 use crate::request::Argument::{self, Bytes, Doubles, Number};
+use crate::sizes;
 
-/// The bad inputs that must be among the cases, two pictures of the largest size, and random ones.
+/// The bad inputs that must be among the cases, sizes in between, random ones, and two pictures of the largest size.
 pub const CASES: usize = 200_000;
 
 /// The sizes of the pictures that the bad inputs are made of.
@@ -25,6 +26,7 @@ struct Call {
 pub fn quality_sheet(random: &mut Random, case: usize) -> Vec<Argument> {
     let call = match case {
         _ if case < SIZES.len() * BAD => bad(random, SIZES[case / BAD], case % BAD),
+        _ if case < SIZES.len() * BAD + between() => sized(random, case - SIZES.len() * BAD),
         _ if case == CASES - 1 => largest(random, 0, 255),
         _ if case == CASES - 2 => largest(random, 255, 0),
         _ => anything(random),
@@ -63,6 +65,20 @@ fn bad(random: &mut Random, size: [usize; 2], which: usize) -> Call {
         11 => call.map[last] = 255,
         _ => call.size[which / 2 % 2] = [0, 129][which % 2],
     }
+    call
+}
+
+/// Each of the sizes in between twice.
+fn between() -> usize {
+    2 * sizes::layouts().len()
+}
+
+/// Some macroblocks absent, but not the last one; then the last byte of the map is no flag.
+fn sized(random: &mut Random, which: usize) -> Call {
+    let layout = sizes::layouts()[which / 2];
+    let mut call = good(random, [layout.width, layout.height]);
+    call.map.fill_with(|| (random.byte() % 4).min(1));
+    *call.map.last_mut().expect("it is no empty map") = [1, 2][which % 2];
     call
 }
 

@@ -6,7 +6,7 @@
 use crate::{Choice, Refusal};
 use Argument::{Bytes, Doubles, Number, Numbers};
 
-#[derive(Clone, Debug, PartialEq, Eq)]
+#[derive(Clone, Debug, PartialEq, Eq, Hash)]
 pub enum Argument {
     Number(i64),
     Bytes(Vec<u8>),
