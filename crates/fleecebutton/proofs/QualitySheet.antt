@@ -25,7 +25,7 @@ use Rattle.sheet.specs.Means.{Given, nothing, given, givenOf, meansOf, areaOf}
 use Rattle.sheet.specs.Promises.{roundedOnce, OfEach, AgreeInPresent}
 use Rattle.sheet.specs.declared.Sheet.{Sheet}
 use Rattle.sheet.proofs.Absent.{given-same}
-use Rattle.sheet.proofs.Answers.{none-given, outcome}
+use Rattle.sheet.proofs.Answers.{none-given, given-outcome}
 use Rattle.sheet.proofs.Exact.{each-rounded}
 use Rattle.sheet.proofs.Outcome.{sound-of}
 use Rattle.fleecebutton.specs.Sends.{QualitySheetSends}
@@ -96,7 +96,7 @@ module _ (κs : Lfts 4) (a : Dens κs quality-sheet.ps) where
         let t = chain-exactly-if (writeTests width height original rebuilt map out) .passes .0 v in
         let g = givenOf (layoutOf width height) original rebuilt map in
         let s = value-some g (omega (arith, valued v, z)) in
-        let o = outcome width height original rebuilt map (t .0) (sym (s .1)) in (
+        let o = given-outcome width height original rebuilt map (t .0) (sym (s .1)) in (
           s .0,
           learnt .wrote ∙ (λ i. written (v i) (areaOf (s .1 i) out) out),
           subst (λ (u : Sheet). OfEach (layoutOf width height) original rebuilt map u (λ mean sum. mean ≡ roundedOnce sum (sampleCount (layoutOf width height) map))) (sym (o .is))

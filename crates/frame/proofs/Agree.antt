@@ -12,8 +12,8 @@ use lib.ListN.{length, take}
 use Rattle.lists.specs.Bytes.{Bytes}
 use Rattle.refusal.specs.declared.Answer.the-variants.{Done}
 use Rattle.refusal.proofs.Same.{says-same}
+use Rattle.picture.specs.Both.{pair}
 use Rattle.picture.specs.Plane.{planeLength}
-use Rattle.macroblock_chroma.specs.Code.{pair}
 use Rattle.plane.specs.Code.{inSlices, CodesPlane}
 use Rattle.plane.specs.Decode.{Decodes}
 use Rattle.plane.specs.declared.CodedPlane.the-variants as coded

@@ -22,9 +22,8 @@ use Rattle.whole.specs.Range.{inside}
 use Rattle.quantizer.specs.Range.{highest}
 use Rattle.head.specs.Entry.{sizeHolds, rowsHold}
 use Rattle.picture.specs.declared.Layout.{Layout}
-use Rattle.picture.specs.Both.{Both}
+use Rattle.picture.specs.Both.{Both, pair}
 use Rattle.picture.specs.Plane.{planeLength}
-use Rattle.macroblock_chroma.specs.Code.{pair}
 use Rattle.plane.specs.Code.{inSlices, planeFrom, codedPlane, saidPlane}
 use Rattle.plane.specs.Decode.{cleared}
 use Rattle.plane.specs.declared.CodedPlane.{CodedPlane}

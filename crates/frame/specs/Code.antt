@@ -15,11 +15,11 @@ use Rattle.quantizer.specs.Range.{quantizerTest}
 use Rattle.head.specs.Entry.{sizeHolds, rowsHold}
 use Rattle.record.specs.Kinds.{inFours, inChroma, lengthOf}
 use Rattle.picture.specs.declared.Layout.{Layout}
-use Rattle.picture.specs.Both.{Both}
+use Rattle.picture.specs.Both.{Both, pair}
 use Rattle.picture.specs.Order.{countOf}
 use Rattle.picture.specs.Plane.{planeLength}
 use Rattle.macroblock.specs.Code.{recordFrom}
-use Rattle.macroblock_chroma.specs.Code.{pair, recordFromChroma, codedStepChroma}
+use Rattle.macroblock_chroma.specs.Code.{recordFromChroma, codedStepChroma}
 use Rattle.macroblock_chroma.specs.Content.{offsetTest}
 use Rattle.plane.specs.Code.{inSlices, headFor, behindHead, planeBefore, codedPlane, saidPlane, bytesUsed}
 use Rattle.plane.specs.Decode.{cleared}

@@ -1,6 +1,6 @@
 -- Modes are the entries of a list, in the order of their numbers.
 --     mode-below        what is permitted has a number below n, where nothing from n on is
---     EachOf, each-of   what holds of each entry, and of what stands past the end, holds at every number
+--     each-of           what holds of each entry, and of what stands past the end, holds at every number
 -- Assumes nothing.
 use mathlib.Core.Path.{_≡_, refl, sym, ap, _∙_}
 use mathlib.Core.Bool.{Bool, true, false, false≢true}
@@ -28,7 +28,7 @@ mode-below n p none m e = by-case (ltb m n) refl
     by-case false l = let h = ltb-false m n l in absurd (false≢true (sym (none (m - n)) ∙ ap p (let z : past n (m - n) ≡ m = omega (arith, past-is n (m - n)) in z) ∙ e))
 
 module _ {A : Type 0} (P : A → Type 0) where
-  abbrev pub EachOf : List A → Type 0
+  abbrev EachOf : List A → Type 0
   EachOf [] = Unit {0}
   EachOf (x ∷ l) = P x × EachOf l
 

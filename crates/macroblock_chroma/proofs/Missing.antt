@@ -22,13 +22,13 @@ use Rattle.residual_whole.specs.Area.{byBlocks}
 use Rattle.residual_whole.specs.Rebuilt.{wholeSamples}
 use Rattle.record.specs.Kinds.{inChroma, lengthOf}
 use Rattle.picture.specs.declared.Layout.{Layout}
-use Rattle.picture.specs.Both.{Both}
+use Rattle.picture.specs.Both.{Both, pair}
 use Rattle.picture.specs.Order.{countOf}
 use Rattle.picture.specs.Plane.{planeLength}
 use Rattle.picture.specs.Whole.{gatheredRound, AgreeRound, wholeOf, wholeTurn}
 use Rattle.picture.proofs.Round.{gathered-round-same}
 use Rattle.picture.proofs.Whole.{whole-back}
-use Rattle.macroblock_chroma.specs.Code.{pair, modeForBoth, codedChroma, planeStepChroma, recordFromChroma, codedStepChroma}
+use Rattle.macroblock_chroma.specs.Code.{modeForBoth, codedChroma, planeStepChroma, recordFromChroma, codedStepChroma}
 use Rattle.macroblock_chroma.specs.Rebuild.{samplesChroma}
 use Rattle.macroblock_chroma.proofs.CodedRecord.{length-record-from-chroma}
 use Rattle.macroblock_chroma.proofs.Looks.{SameAround, same-mode, same-record-chroma}

@@ -40,12 +40,12 @@ use Rattle.residual_whole.specs.Rebuilt.{acIn, dcValues, valuesIn, dcValueOf, b
 use Rattle.octets.specs.Numbers.{levelBytes}
 use Rattle.octets.specs.Sum.{summed}
 use Rattle.record.specs.Records.{recordChroma, recordWith, allLevelsIn}
-use Rattle.picture.specs.Both.{Both}
+use Rattle.picture.specs.Both.{Both, pair}
 use Rattle.picture.specs.Order.{blockTable, blockIn, tablePlace, columnIn, rowIn, blockColumn, blockRow}
 use Rattle.picture.specs.Plane.{layoutOf, blockAt, stored}
 use Rattle.picture.specs.Presence.{sameSlice, macroblockPresent}
 use Rattle.picture.specs.Whole.{presentRound, flagsRound, roundSample, gatheredRound, wholeTurn}
-use Rattle.macroblock_chroma.specs.Code.{pair, modeForBoth, levelsChroma, recordFromChroma}
+use Rattle.macroblock_chroma.specs.Code.{modeForBoth, levelsChroma, recordFromChroma}
 use Rattle.macroblock_chroma.specs.Content.{cbLevelsIn, crLevelsIn, contentTestsChroma}
 use Rattle.macroblock_chroma.specs.Rebuild.{predictionChroma, samplesChroma, cbStep, crStep}
 

@@ -13,10 +13,6 @@ use Rattle.picture.specs.Both.{Both, bothStep}
 use Rattle.picture.specs.Whole.{wholeOf, gatheredRound, wholeTurn}
 use Rattle.macroblock_chroma.specs.Rebuild.{roundChroma, predictionChroma, samplesChroma}
 
--- Cb and Cr, made of a plane each
-abbrev pub pair : (cb cr : List ℕ) → Both
-pair cb cr = record { cb = cb; cr = cr }
-
 -- "One mode serves Cb and Cr, chosen by the summed SAD, lower number on a tie": of the rebuilt planes before macroblock m
 unfoldable pub modeForBoth : Layout → (original : Both) → (m : ℕ) → (before : Both) → ℕ
 modeForBoth l original m before =

@@ -188,14 +188,14 @@ module _ {l : Layout} {m b : ℕ} (a : Among l m b) (block own plane : List ℕ)
   some : 0 < l .width
   some = a .sound .some
 
-  abbrev over : List ℕ
-  over = withWhole 16 l m own plane
+  abbrev patched : List ℕ
+  patched = withWhole 16 l m own plane
 
   abbrev inner : List ℕ
   inner = stored 4 16 (4 * columnIn b) (4 * rowIn b) block own
 
-  over-long : length (withWhole 16 l m own plane) ≡ planeLength 16 l
-  over-long = length-stored 16 (stride 16 l) (wholeColumn 16 l m) (wholeRow 16 l m) own plane ∙ long
+  patched-long : length (withWhole 16 l m own plane) ≡ planeLength 16 l
+  patched-long = length-stored 16 (stride 16 l) (wholeColumn 16 l m) (wholeRow 16 l m) own plane ∙ long
 
   room-own : Room 4 (length own) 16 (4 * columnIn b) (4 * rowIn b)
   room-own = let f = inner-facts b (a .block) in record { wide = f .thin; high = rw size (omega (arith, f .low)) }
@@ -204,21 +204,21 @@ module _ {l : Layout} {m b : ℕ} (a : Among l m b) (block own plane : List ℕ)
   unfolding covers
   covers-one = refl
 
-  pub block-over : withWhole 16 l m inner plane ≡ withBlock 4 l m b block over
+  pub block-over : withWhole 16 l m inner plane ≡ withBlock 4 l m b block patched
   block-over =
-      ext-getD 0 (withWhole 16 l m inner plane) (withBlock 4 l m b block over)
+      ext-getD 0 (withWhole 16 l m inner plane) (withBlock 4 l m b block patched)
       (length-stored 16 (stride 16 l) (wholeColumn 16 l m) (wholeRow 16 l m) inner plane
-      ∙ sym (length-stored 4 (stride 16 l) (blockColumn l m b) (blockRow l m b) block over ∙ length-stored 16 (stride 16 l) (wholeColumn 16 l m) (wholeRow 16 l m) own plane))
+      ∙ sym (length-stored 4 (stride 16 l) (blockColumn l m b) (blockRow l m b) block patched ∙ length-stored 16 (stride 16 l) (wholeColumn 16 l m) (wholeRow 16 l m) own plane))
       (λ i h. by-case i (eqb (macroblockOwning 16 l i) m) (eqb (ownerOf l i) (orderOf m b)) refl refl)
     where
-      kept : (i : ℕ) → (ownerOf l i ≡ orderOf m b → ⊥) → getD (withBlock 4 l m b block over) i 0 ≡ getD over i 0
-      kept i other = others-kept l some 4 m b (a .macroblock) (starts-four b (a .block)) block over i (λ w. other (omega (arith, w .0, w .1, covers-one)))
+      kept : (i : ℕ) → (ownerOf l i ≡ orderOf m b → ⊥) → getD (withBlock 4 l m b block patched) i 0 ≡ getD patched i 0
+      kept i other = others-kept l some 4 m b (a .macroblock) (starts-four b (a .block)) block patched i (λ w. other (omega (arith, w .0, w .1, covers-one)))
 
       inside : (i : ℕ) → macroblockOwning 16 l i ≡ m → Within 16 (wholeColumn 16 l m) (wholeRow 16 l m) (i % stride 16 l) (i / stride 16 l)
       inside i o = in-whole 16 (omega arith) l (i % stride 16 l) (i / stride 16 l) m (mod-lt i (wide 16 (omega arith) l some)) o
 
       by-case : (i : ℕ) (s t : Bool) → eqb (macroblockOwning 16 l i) m ≡ s → eqb (ownerOf l i) (orderOf m b) ≡ t
-          → getD (withWhole 16 l m inner plane) i 0 ≡ getD (withBlock 4 l m b block over) i 0
+          → getD (withWhole 16 l m inner plane) i 0 ≡ getD (withBlock 4 l m b block patched) i 0
       by-case i false t e f =
           let n = eqb-false (macroblockOwning 16 l i) m e in
           let o = order-macroblock l (i % stride 16 l) (i / stride 16 l) in
@@ -249,7 +249,7 @@ module _ {l : Layout} {m b : ℕ} (a : Among l m b) (block own plane : List ℕ)
           whole-stored 16 (omega arith) l some m (a .macroblock) inner plane long i o
           ∙ (rw (digits-mod (i / stride 16 l - blockRow l m b) {m = 4} {r = i % stride 16 l - blockColumn l m b} dx, digits-div (i / stride 16 l - blockRow l m b) {m = 4} {r = i % stride 16 l - blockColumn l m b} dx, x, y) at
           (sample-stored 4 16 (4 * columnIn b) (4 * rowIn b) block own room-own ((i / stride 16 l - blockRow l m b) * 4 + (i % stride 16 l - blockColumn l m b)) (omega (arith, dx, dy))))
-          ∙ sym (own-stored l some 4 m b (a .macroblock) (starts-four b (a .block)) block over over-long i (omega arith, omega (arith, covers-one)))
+          ∙ sym (own-stored l some 4 m b (a .macroblock) (starts-four b (a .block)) block patched patched-long i (omega arith, omega (arith, covers-one)))
 
 -- ---- a step of the macroblock, of its samples
 

@@ -169,7 +169,7 @@ fn four(plane: &[u8], at: usize, back: usize, step: usize, present: bool) -> [u8
 }
 
 // A block's neighbours in one list.
-fn in_order(corner: u8, above: [u8; 4], right: [u8; 4], left: [u8; 4]) -> [u8; 13]
+fn in_one_list(corner: u8, above: [u8; 4], right: [u8; 4], left: [u8; 4]) -> [u8; 13]
     ensures { λ r. ⌜ r ≡ (corner ∷ []) ++ tab 4 (λ k. getD above k 0) ++ tab 4 (λ k. getD right k 0) ++ tab 4 (λ k. getD left k 0) ⌝ }
 {
     [
@@ -201,7 +201,7 @@ pub fn gather(plane: &[u8], layout: Layout, m: usize, b: usize) -> [u8; 13]
     let above = four(plane, at, stride, 1, has_above(layout, m, b));
     let right = four(plane, at, stride - 4, 1, has_upper_right(layout, m, b));
     let left = four(plane, at, 1, stride, has_left(layout, m, b));
-    in_order(corner, above, right, left)
+    in_one_list(corner, above, right, left)
 }
 
 // ---- the same over a macroblock's own samples: as its neighbours stand in the plane with these 256 in their places, which is not made
@@ -299,7 +299,7 @@ pub fn gather_over(plane: &[u8], own: &[u8], layout: Layout, m: usize, b: usize)
     requires { ⌜ (length (now plane) ≡ planeLength 16 layout) × (length (now own) ≡ 256) ⌝ }
     ensures { λ r. ⌜ r ≡ gathered 4 layout m b (withWhole 16 layout m (now (own .entry)) (now (plane .entry))) ⌝ }
 {
-    in_order(
+    in_one_list(
         corner_over(plane, own, layout, m, b),
         above_over(plane, own, layout, m, b),
         right_over(plane, own, layout, m, b),

@@ -2,7 +2,7 @@
 --     bad-size, bad-rows, plane-missed, file-missed, rebuilt-missed, high-quantizer, plane-coded     a law for each answer of the code
 --     code-plane-refuses-exactly-if
 --     same-coded-plane     an answer is known by what it says and how many bytes it used
---     Outcome, outcome     where it answers `Bytes`, no test has failed: the file stands in the bytes used, and the rest keep theirs
+--     PlaneOutcome, outcome     where it answers `Bytes`, no test has failed: the file stands in the bytes used, and the rest keep theirs
 -- Assumes nothing.
 use mathlib.Core.Path.{_≡_, refl, sym, ap, _∙_}
 use mathlib.Core.Bool.{true, false}
@@ -91,7 +91,7 @@ module _ (width height rows qp : ℕ) (plane file rebuilt : List ℕ) where
 -- ---- what an answer tells
 
 -- what is known where a plane was coded
-pub record Outcome (width height rows qp : ℕ) (plane file rebuilt : List ℕ) (used : ℕ) (file′ rebuilt′ : List ℕ) : Type 0 where
+pub record PlaneOutcome (width height rows qp : ℕ) (plane file rebuilt : List ℕ) (used : ℕ) (file′ rebuilt′ : List ℕ) : Type 0 where
   pub size : sizeHolds width height ≡ true
   pub sliced : rowsHold height rows ≡ true
   pub long : length plane ≡ planeLength 16 (inSlices width height rows)
@@ -105,7 +105,7 @@ pub record Outcome (width height rows qp : ℕ) (plane file rebuilt : List ℕ) 
 
 module _ (width height rows qp : ℕ) (plane : List ℕ) where
   pub outcome : (file rebuilt : List ℕ) (used : ℕ) (file′ rebuilt′ : List ℕ) → CodesPlane width height rows qp plane file rebuilt (Bytes used) file′ rebuilt′
-      → Outcome width height rows qp plane file rebuilt used file′ rebuilt′
+      → PlaneOutcome width height rows qp plane file rebuilt used file′ rebuilt′
   outcome file rebuilt used file′ rebuilt′ c =
       let v : chain (codePlaneTests width height rows qp plane file rebuilt) ≡ pass = sym (says-same (c .says)) in
       let all = chain-exactly-if (codePlaneTests width height rows qp plane file rebuilt) .passes .0 v in

@@ -1,3 +1,4 @@
+pub mod Accepted
 pub mod Broken
 pub mod CodedFile
 pub mod CodedOutcome

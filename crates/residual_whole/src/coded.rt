@@ -10,7 +10,7 @@ ghost use Rattle.quantizer.specs.Range.{highest};
 ghost use Rattle.transform.specs.Forward.{forward};
 ghost use Rattle.dc.specs.Path.{acOf};
 ghost use Rattle.residual_whole.specs.Area.{Sided, blocksOf};
-ghost use Rattle.residual_whole.specs.Coded.{residualIn, wholeDc, wholeLevels};
+ghost use Rattle.residual_whole.specs.Coded.{residualIn, dcLevels, wholeDc, wholeLevels};
 use crate::area;
 use quantizer::Quantizer;
 
@@ -73,7 +73,8 @@ fn blocks_to_levels(
     }
 }
 
-// The levels of a macroblock: the DC levels, then the AC levels of its blocks. `coefficients` is room for the DC coefficients.
+// The levels of a macroblock: the DC levels, then the AC levels of its blocks. `coefficients` is room for the DC coefficients, whose levels it is
+// left with.
 pub(crate) fn macroblock_to_levels(
     s: usize,
     quantizer: Quantizer,
@@ -85,6 +86,7 @@ pub(crate) fn macroblock_to_levels(
     requires { ⌜ (Sided s) × (quantizer .qp ≤ highest) × (length (now prediction) ≡ s * s) × (length (now samples) ≡ s * s) ⌝ }
     requires { ⌜ (length (now coefficients) ≡ blocksOf s) × (length (now levels) ≡ s * s) ⌝ }
     ensures { λ _. ⌜ now (levels .exit) ≡ wholeLevels s (quantizer .qp) (now (samples .entry)) (now (prediction .entry)) ⌝ }
+    ensures { λ _. ⌜ now (coefficients .exit) ≡ dcLevels (blocksOf s) (quantizer .qp) (wholeDc s (now (samples .entry)) (now (prediction .entry))) ⌝ }
 {
     blocks_to_levels(s, quantizer, prediction, samples, coefficients, levels);
     dc::inner::levels_over(quantizer, coefficients);

@@ -1,6 +1,6 @@
 -- What an answer tells of the picture.
 --     none-given, nothing-exactly-if       when there is no sheet
---     Outcome, outcome, sheet-outcome      what is known where a sheet came back
+--     SheetOutcome, given-outcome, sheet-outcome      what is known where a sheet came back
 -- Assumes nothing.
 use mathlib.Core.Path.{_≡_, refl, sym, ap, _∙_}
 use mathlib.Core.Bool.{Bool, true, false, cond}
@@ -90,19 +90,19 @@ module _ (width height : ℕ) (original rebuilt map : List ℕ) where
           same-sheeted r answer.Nothing (says-same (p .says) ∙ v) (come v ∙ none-given (h .0 .1) .1 (h .1))
 
   -- what is known where a sheet came back
-  pub record Outcome (s : Sheet) : Type 0 where
+  pub record SheetOutcome (s : Sheet) : Type 0 where
     pub size : sizeHolds width height ≡ true
     pub some : 0 < presentCount (width * height) map
     pub is : s ≡ sheetOf (layoutOf width height) original rebuilt map
 
-  pub outcome : {s : Sheet} → sizeHolds width height ≡ true → given s ≡ givenOf (layoutOf width height) original rebuilt map → Outcome s
-  outcome size e =
+  pub given-outcome : {s : Sheet} → sizeHolds width height ≡ true → given s ≡ givenOf (layoutOf width height) original rebuilt map → SheetOutcome s
+  given-outcome size e =
       let g = given-some _ _ e in
       let off : (presentCount (width * height) map ≡ 0 → ⊥) = eqb-false (presentCount (width * height) map) 0 (g .0) in
       record { size = size; some = omega arith; is = g .1 }
 
-  pub sheet-outcome : {s : Sheet} → Sheets width height original rebuilt map (answer.Sheet s) → Outcome s
+  pub sheet-outcome : {s : Sheet} → Sheets width height original rebuilt map (answer.Sheet s) → SheetOutcome s
   sheet-outcome p =
       let v : chain (sheetTests width height original rebuilt map) ≡ pass = sym (says-same (p .says)) in
       let a = chain-exactly-if (sheetTests width height original rebuilt map) .passes .0 v in
-      outcome (a .0) (holds-new nothing v (p .sheet))
+      given-outcome (a .0) (holds-new nothing v (p .sheet))

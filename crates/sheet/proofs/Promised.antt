@@ -25,7 +25,7 @@ use Rattle.sheet.specs.declared.Sheet.{Sheet}
 use Rattle.sheet.specs.declared.Sheeted.{Sheeted}
 use Rattle.sheet.specs.declared.Sheeted.the-variants as answer
 use Rattle.sheet.proofs.Absent.{answers-same}
-use Rattle.sheet.proofs.Answers.{nothing-exactly-if, Outcome, sheet-outcome}
+use Rattle.sheet.proofs.Answers.{nothing-exactly-if, SheetOutcome, sheet-outcome}
 use Rattle.sheet.proofs.Exact.{sums-convert, each-rounded, each-exact}
 use Rattle.sheet.proofs.Outcome.{sound-of}
 use Rattle.sheet.proofs.quality_sheet.Kinds as quality-sheet
@@ -54,7 +54,7 @@ module _ (κs : Lfts 3) (a : Dens κs quality-sheet.ps) where
 
     -- a sheet that came back, of planes of bytes
     module _ (s : Sheet) (came : r ≡ answer.Sheet s) (own : Bytes original) (back : Bytes rebuilt) where
-      known : Outcome width height original rebuilt map s
+      known : SheetOutcome width height original rebuilt map s
       known = sheet-outcome width height original rebuilt map (subst (λ (x : Sheeted). Sheets width height original rebuilt map x) came learnt)
 
       few : width * height ≤ 16384

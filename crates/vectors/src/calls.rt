@@ -7,6 +7,7 @@ mod blocks;
 mod coding;
 mod decoding;
 mod numbers;
+mod telling;
 
 // A word that no function sends back: 255 is no refusal's number.
 pub(crate) const NEVER_SENT: u64 = 255;
@@ -17,9 +18,11 @@ pub(crate) fn answered(function: u8, frame: &[u8]) -> bool
 {
     match function {
         0 | 1 | 4 | 5 | 11 => blocks::answered(function, frame),
+        10 | 12 | 14 | 19 | 20 => telling::answered(function, frame),
         13 => coding::plane_answered(frame),
+        15 => decoding::plane_answered(frame),
         17 => coding::picture_answered(frame),
-        14 | 15 | 18 | 19 => decoding::answered(function, frame),
+        18 => decoding::picture_answered(frame),
         _ => numbers::answered(function, frame),
     }
 }

@@ -3,13 +3,13 @@ ghost use mathlib.Core.Path.{_≡_};
 ghost use Prim.Native.Nat.{_≤_, _<_};
 ghost use lib.ListN.{length};
 use crate::calls;
-use crate::frame;
+use crate::rooms;
 
 // Asks the requests of the file that has the function's name, and prints how many were answered as recorded.
 pub(crate) fn run(function: u8, name: &[u8]) {
     let file = os::open_read(name);
     let steps = count(file);
-    let mut frame = [frame::BEFORE; frame::END];
+    let mut frame = [rooms::BEFORE; rooms::END];
     let mut asked: usize = 0;
     let mut right: usize = 0;
     for step in 0..steps {
@@ -27,7 +27,7 @@ fn count(file: i32) -> usize
 {
     let mut head = [0u8; 4];
     io::read_full(file, &mut head);
-    frame::four(&head, 0) as usize
+    recorded::inner::four_bytes(&head, 0) as usize
 }
 
 fn one_if(right: bool) -> usize
@@ -44,8 +44,8 @@ fn completes(file: i32, frame: &mut [u8]) -> bool
     if io::read_full(file, &mut head) < 4 {
         return false;
     }
-    let place = frame::two(&head, 0) as usize;
-    let end = place + frame::two(&head, 2) as usize;
+    let place = recorded::inner::two_bytes(&head, 0) as usize;
+    let end = place + recorded::inner::two_bytes(&head, 2) as usize;
     if frame.len() < end {
         return false;
     }

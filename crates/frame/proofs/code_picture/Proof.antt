@@ -20,9 +20,9 @@ use Rattle.residual.proofs.Entry.{accepted-passed, accepted-number, accepted-re
 use Rattle.head.specs.Entry.{sizeHolds, rowsHold}
 use Rattle.head.proofs.Heads.{rows-of}
 use Rattle.picture.specs.declared.Layout.{Layout}
+use Rattle.picture.specs.Both.{pair}
 use Rattle.picture.specs.Order.{Sound}
 use Rattle.picture.specs.Plane.{planeLength}
-use Rattle.macroblock_chroma.specs.Code.{pair}
 use Rattle.plane.specs.Code.{inSlices}
 use Rattle.plane.specs.Decode.{cleared}
 use Rattle.plane.proofs.Entry.{sound-slices}

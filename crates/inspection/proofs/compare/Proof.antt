@@ -2,22 +2,18 @@
 -- Assumes nothing.
 use mathlib.Core.Path.{_≡_, ap, _∙_}
 use mathlib.Core.List.{List}
-use Prim.Native.Nat.{ℕ, _+_, _-_, _*_, _≤_}
+use Prim.Native.Nat.{ℕ, _-_, _*_, _≤_}
 use native.Mathlib.Omega.{arith}
 use borrow.Author.Needs.{needs}
-use lib.ListN.{length, take, drop}
-use Rattle.lists.specs.Chain.{chain, pass}
 use Rattle.lists.specs.First.{first}
-use Rattle.lists.proofs.Chains.{chain-pass}
 use Rattle.lists.proofs.First.{Searching, searching-none}
 use Rattle.picture.specs.Plane.{planeLength}
 use Rattle.picture.specs.Whole.{wholeOf}
 use Rattle.picture.proofs.Plane.{samples-fit}
-use Rattle.macroblock.specs.Content.{contentTests}
 use Rattle.macroblock.specs.Rebuild.{rebuiltStep}
-use Rattle.plane.specs.Decode.{lumaNumber, lumaIn, formsTests, macroblockTests, contentsTests, decoded}
-use Rattle.plane.proofs.Entry.{records-passed}
-use Rattle.plane.proofs.Walking.{Walking, walking-none, part-inside, part-is, luma-among, luma-long, luma-passed, next-is, next-inside}
+use Rattle.plane.specs.Decode.{lumaNumber, lumaIn, decoded}
+use Rattle.plane.proofs.Accepted.{LumaLent, luma-lent, next-accepted}
+use Rattle.plane.proofs.Walking.{Walking, walking-none, next-is}
 use Rattle.inspection.specs.Inspect.{unlike, differAt}
 use Rattle.inspection.proofs.Differences.{differing-more, differing-here, differing-done}
 use Rattle.inspection.proofs.Entry.{rebuilt-beside}
@@ -37,46 +33,27 @@ small s = omega (arith, samples-fit (s .pre .0))
 mul-count : tie.Need-mul-count Inv-loop μ-loop
 mul-count c = let f = small (c .before .before .before .before) in omega arith
 
--- the form passed, and the content
-passed : (s : tie.Start Inv-loop μ-loop)
-    → let a = s .args in
-    (chain (formsTests (a .layout) (a .start) (a .file .now)) ≡ pass) × (chain (contentsTests (a .layout) (a .start) (a .file .now)) ≡ pass)
-passed s = records-passed (s .args .layout) (s .args .start) (s .args .file .now) (s .args .theirs .now) (s .pre .1)
-
 loop-holds : tie.Need-loop-holds Inv-loop μ-loop
 loop-holds c =
     let s = c .before .before .before .before in
     (walking-none (s .args .layout) (s .args .file .now) (s .args .start), searching-none _ _)
 
--- what is lent lies in the file
-inside : (c : tie.After-length-from Inv-loop μ-loop)
-    → c .before .before .loop .place + c .length-from .result ≤ length (c .before .before .before .before .before .before .before .args .file .now)
-inside c =
-    let T = c .before in
-    let L = T .before in
-    let s = L .before .before .before .before .before in
-    let a = s .args in
-    part-inside (a .layout) (a .file .now) (a .start) (passed s .0) (lumaNumber (a .file .now) (a .start) (L .loop .m))
-    (luma-among (a .layout) (a .file .now) (a .start) (L .loop .m) (T .loop-test .taken)) (L .loop .inv .0) (c .length-from .ensures)
-
--- and is macroblock m's luma record
-part : (c : tie.After-length-from Inv-loop μ-loop)
+-- what is lent is macroblock m's luma record
+lent : (c : tie.After-length-from Inv-loop μ-loop)
     → let L = c .before .before in
     let a = L .before .before .before .before .before .args in
-    take (L .loop .place + c .length-from .result - L .loop .place) (drop (L .loop .place) (a .file .now)) ≡ lumaIn (a .file .now) (a .start) (L .loop .m)
-part c =
+    LumaLent (a .layout) (a .file .now) (a .start) (L .loop .m) (L .loop .place) (c .length-from .result)
+lent c =
     let T = c .before in
     let L = T .before in
     let s = L .before .before .before .before .before in
-    let a = s .args in
-    part-is (a .layout) (a .file .now) (a .start) (passed s .0) (lumaNumber (a .file .now) (a .start) (L .loop .m))
-    (luma-among (a .layout) (a .file .now) (a .start) (L .loop .m) (T .loop-test .taken)) (L .loop .inv .0) (c .length-from .ensures)
+    luma-lent (s .args .layout) (s .args .file .now) (s .args .start) (s .pre .1) (L .loop .m) (T .loop-test .taken) (L .loop .inv .0) (c .length-from .ensures)
 
 add-end : tie.Need-add-end Inv-loop μ-loop
-add-end c = let h = inside c in search needs
+add-end c = let h = lent c .inside in search needs
 
 part-first-in-macroblock-end : tie.Need-part-first-in-macroblock-end Inv-loop μ-loop
-part-first-in-macroblock-end c = inside c
+part-first-in-macroblock-end c = lent c .inside
 
 first-in-macroblock-requires : tie.Need-first-in-macroblock-requires Inv-loop μ-loop
 first-in-macroblock-requires c κs =
@@ -84,12 +61,7 @@ first-in-macroblock-requires c κs =
     let T = F .before in
     let L = T .before in
     let s = L .before .before .before .before .before in
-    let a = s .args in
-    let long = luma-long (a .layout) (a .file .now) (a .start) (L .loop .m) (T .loop-test .taken) (passed s .0) (L .loop .inv .0) (F .length-from .ensures) in
-    let tested = chain-pass (macroblockTests (a .layout) (a .start) (a .file .now)) (a .layout .width * a .layout .height) (L .loop .m) (T .loop-test .taken) (passed s .1) in (
-      (record { sound = s .pre .0; macroblock = T .loop-test .taken; block = omega arith }, long, s .pre .2),
-      ap (λ (p : List ℕ). chain (contentTests (a .layout) (L .loop .m) p)) (part F) ∙ luma-passed (a .layout) (a .file .now) (a .start) (L .loop .m) tested,
-    )
+    ((record { sound = s .pre .0; macroblock = T .loop-test .taken; block = omega arith }, lent F .size, s .pre .2), lent F .passed)
 
 -- what was found is the first sample of macroblock m in which theirs is not the decoder's
 found : (c : tie.After-first-in-macroblock Inv-loop μ-loop)
@@ -104,7 +76,7 @@ found c =
     let s = L .before .before .before .before .before in
     let a = s .args in
     let beside =
-    ap (λ (p : List ℕ). wholeOf 16 (a .layout) (L .loop .m) (rebuiltStep (a .layout) (L .loop .m) p (a .theirs .now))) (part F)
+    ap (λ (p : List ℕ). wholeOf 16 (a .layout) (L .loop .m) (rebuiltStep (a .layout) (L .loop .m) p (a .theirs .now))) (lent F .part)
     ∙ rebuilt-beside (a .layout) (s .pre .0 .some) (lumaIn (a .file .now) (a .start)) (a .theirs .now) (s .pre .2) (L .loop .m) (T .loop-test .taken) (L .loop .inv .1) in
     c .first-in-macroblock .ensures ∙ ap (λ (p : List ℕ). first 256 (unlike p (wholeOf 16 (a .layout) (L .loop .m) (a .theirs .now)))) beside
 
@@ -131,7 +103,7 @@ next-place-requires c κs =
     let C = L .before .before in
     let s = C .before .before .before in
     let a = s .args in
-    next-inside (a .layout) (a .file .now) (a .start) (passed s .0) (L .loop .m) (T .loop-test .taken) (L .loop .inv .0) (C .colour-from .ensures)
+    next-accepted (a .layout) (a .file .now) (a .start) (s .pre .1) (L .loop .m) (T .loop-test .taken) (L .loop .inv .0) (C .colour-from .ensures)
 
 loop-again : tie.Need-loop-again Inv-loop μ-loop
 loop-again c =

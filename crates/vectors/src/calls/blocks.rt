@@ -2,20 +2,20 @@
 ghost use mathlib.Core.Path.{_≡_};
 ghost use lib.ListN.{length};
 use crate::calls::NEVER_SENT;
-use crate::frame;
+use crate::rooms;
 
 pub(crate) fn answered(function: u8, frame: &[u8]) -> bool
     requires { ⌜ length (now frame) ≡ 36838 ⌝ }
 {
-    let wanted = frame::eight(frame, frame::WORD);
-    let list = frame::numbers(&frame[frame::LIST..frame::MADE]);
-    let numbers = frame::numbers(&frame[frame::MADE..frame::SECOND]);
-    let mut made = [frame::NUMBER_BEFORE; frame::NUMBERS];
-    let mut out = [frame::BEFORE; frame::FILE];
+    let wanted = recorded::inner::eight_bytes(frame, rooms::WORD);
+    let list = recorded::inner::list_of(&frame[rooms::LIST..rooms::MADE]);
+    let numbers = recorded::inner::list_of(&frame[rooms::MADE..rooms::SECOND]);
+    let mut made = [rooms::NUMBER_BEFORE; rooms::NUMBERS];
+    let mut out = [rooms::BEFORE; rooms::FILE];
     let word = called(function, frame, &list, &mut made, &mut out);
     (word == wanted)
-        & frame::same_numbers(made, numbers)
-        & frame::has_bytes(frame, frame::OUT, frame::MORE, &out)
+        & recorded::inner::same_list(made, numbers)
+        & rooms::has_bytes(frame, rooms::OUT, rooms::MORE, &out)
 }
 
 // The call, with slices of the frame's lengths.
@@ -24,12 +24,12 @@ fn called(function: u8, frame: &[u8], list: &[i32], made: &mut [i32], out: &mut 
 {
     word(
         function,
-        &frame[0..frame::WORD],
-        frame::bytes_in(frame, 0, frame::FIRST, frame::OUT),
-        frame::bytes_in(frame, 1, frame::SECOND, frame::THIRD),
-        frame::numbers_in(frame, 3, list),
-        frame::numbers_out(frame, 4, made),
-        frame::bytes_out(frame, 5, out),
+        &frame[0..rooms::WORD],
+        rooms::bytes_in(frame, 0, rooms::FIRST, rooms::OUT),
+        rooms::bytes_in(frame, 1, rooms::SECOND, rooms::THIRD),
+        rooms::numbers_in(frame, 3, list),
+        rooms::numbers_out(frame, 4, made),
+        rooms::bytes_out(frame, 5, out),
     )
 }
 
@@ -58,5 +58,11 @@ fn word(
 fn of_given_dc(values: &[u8], first: &[u8], list: &[i32], out: &mut [u8]) -> u64
     requires { ⌜ length (now values) ≡ 48 ⌝ }
 {
-    fleecebutton::fb_rebuild_with_dc(values[0], first, frame::signed(values, 8), list, out)
+    fleecebutton::fb_rebuild_with_dc(
+        values[0],
+        first,
+        recorded::inner::four_signed(values, 8),
+        list,
+        out,
+    )
 }

@@ -1,34 +1,34 @@
 // The coders of planes and of pictures.
 ghost use mathlib.Core.Path.{_≡_};
 ghost use lib.ListN.{length};
-use crate::frame;
+use crate::rooms;
 
 pub(crate) fn plane_answered(frame: &[u8]) -> bool
     requires { ⌜ length (now frame) ≡ 36838 ⌝ }
 {
-    let wanted = frame::eight(frame, frame::WORD);
-    let mut out = [frame::BEFORE; frame::FILE];
-    let mut more = [frame::BEFORE; frame::PLANE];
-    let word = of_plane(
+    let wanted = recorded::inner::eight_bytes(frame, rooms::WORD);
+    let mut out = [rooms::BEFORE; rooms::FILE];
+    let mut more = [rooms::BEFORE; rooms::PLANE];
+    let word = plane_word(
         frame,
-        frame::bytes_out(frame, 5, &mut out),
-        frame::bytes_out(frame, 6, &mut more),
+        rooms::bytes_out(frame, 5, &mut out),
+        rooms::bytes_out(frame, 6, &mut more),
     );
     (word == wanted)
-        & frame::has_bytes(frame, frame::OUT, frame::MORE, &out)
-        & frame::has_bytes(frame, frame::MORE, frame::EXTRA, &more)
+        & rooms::has_bytes(frame, rooms::OUT, rooms::MORE, &out)
+        & rooms::has_bytes(frame, rooms::MORE, rooms::EXTRA, &more)
 }
 
-fn of_plane(frame: &[u8], file: &mut [u8], rebuilt: &mut [u8]) -> u64
+fn plane_word(frame: &[u8], file: &mut [u8], rebuilt: &mut [u8]) -> u64
     requires { ⌜ length (now frame) ≡ 36838 ⌝ }
 {
-    let size = frame::size_in(frame);
+    let size = rooms::size_in(frame);
     fleecebutton::fb_code_plane(
         size.width,
         size.height,
         size.rows,
         frame[24],
-        frame::bytes_in(frame, 0, frame::FIRST, frame::OUT),
+        rooms::bytes_in(frame, 0, rooms::FIRST, rooms::OUT),
         file,
         rebuilt,
     )
@@ -37,32 +37,32 @@ fn of_plane(frame: &[u8], file: &mut [u8], rebuilt: &mut [u8]) -> u64
 pub(crate) fn picture_answered(frame: &[u8]) -> bool
     requires { ⌜ length (now frame) ≡ 36838 ⌝ }
 {
-    let wanted = frame::eight(frame, frame::WORD);
-    let mut out = [frame::BEFORE; frame::FILE];
-    let mut more = [frame::BEFORE; frame::PLANE];
-    let mut extra = [frame::BEFORE; frame::CHROMA];
-    let mut last = [frame::BEFORE; frame::CHROMA];
-    let word = of_picture(
+    let wanted = recorded::inner::eight_bytes(frame, rooms::WORD);
+    let mut out = [rooms::BEFORE; rooms::FILE];
+    let mut more = [rooms::BEFORE; rooms::PLANE];
+    let mut extra = [rooms::BEFORE; rooms::CHROMA];
+    let mut last = [rooms::BEFORE; rooms::CHROMA];
+    let word = picture_word(
         frame,
-        frame::bytes_out(frame, 5, &mut out),
-        frame::bytes_out(frame, 6, &mut more),
-        frame::bytes_out(frame, 7, &mut extra),
-        frame::bytes_out(frame, 8, &mut last),
+        rooms::bytes_out(frame, 5, &mut out),
+        rooms::bytes_out(frame, 6, &mut more),
+        rooms::bytes_out(frame, 7, &mut extra),
+        rooms::bytes_out(frame, 8, &mut last),
     );
     (word == wanted)
-        & frame::has_bytes(frame, frame::OUT, frame::MORE, &out)
-        & frame::has_bytes(frame, frame::MORE, frame::EXTRA, &more)
-        & frame::has_bytes(frame, frame::EXTRA, frame::LAST, &extra)
-        & frame::has_bytes(frame, frame::LAST, frame::END, &last)
+        & rooms::has_bytes(frame, rooms::OUT, rooms::MORE, &out)
+        & rooms::has_bytes(frame, rooms::MORE, rooms::EXTRA, &more)
+        & rooms::has_bytes(frame, rooms::EXTRA, rooms::LAST, &extra)
+        & rooms::has_bytes(frame, rooms::LAST, rooms::END, &last)
 }
 
-fn of_picture(frame: &[u8], file: &mut [u8], luma: &mut [u8], cb: &mut [u8], cr: &mut [u8]) -> u64
+fn picture_word(frame: &[u8], file: &mut [u8], luma: &mut [u8], cb: &mut [u8], cr: &mut [u8]) -> u64
     requires { ⌜ length (now frame) ≡ 36838 ⌝ }
 {
-    let size = frame::size_in(frame);
+    let size = rooms::size_in(frame);
     let qp = frame[24];
-    let cb_offset = frame::signed(frame, 32);
-    let cr_offset = frame::signed(frame, 40);
+    let cb_offset = recorded::inner::four_signed(frame, 32);
+    let cr_offset = recorded::inner::four_signed(frame, 40);
     fleecebutton::fb_code_picture(
         size.width,
         size.height,
@@ -70,9 +70,9 @@ fn of_picture(frame: &[u8], file: &mut [u8], luma: &mut [u8], cb: &mut [u8], cr:
         qp,
         cb_offset,
         cr_offset,
-        frame::bytes_in(frame, 0, frame::FIRST, frame::OUT),
-        frame::bytes_in(frame, 1, frame::SECOND, frame::THIRD),
-        frame::bytes_in(frame, 2, frame::THIRD, frame::FIRST),
+        rooms::bytes_in(frame, 0, rooms::FIRST, rooms::OUT),
+        rooms::bytes_in(frame, 1, rooms::SECOND, rooms::THIRD),
+        rooms::bytes_in(frame, 2, rooms::THIRD, rooms::FIRST),
         file,
         luma,
         cb,

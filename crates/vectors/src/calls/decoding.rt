@@ -1,37 +1,34 @@
-// The functions that take a record file.
+// The decoders of planes and of pictures.
 ghost use mathlib.Core.Path.{_≡_};
 ghost use lib.ListN.{length};
-use crate::calls::NEVER_SENT;
-use crate::frame;
+use crate::rooms;
 
-pub(crate) fn answered(function: u8, frame: &[u8]) -> bool
+pub(crate) fn plane_answered(frame: &[u8]) -> bool
     requires { ⌜ length (now frame) ≡ 36838 ⌝ }
 {
-    let wanted = frame::eight(frame, frame::WORD);
-    let mut out = [frame::BEFORE; frame::FILE];
-    let mut more = [frame::BEFORE; frame::PLANE];
-    let mut extra = [frame::BEFORE; frame::CHROMA];
-    let word = called(function, frame, &mut out, &mut more, &mut extra);
-    (word == wanted)
-        & frame::has_bytes(frame, frame::OUT, frame::MORE, &out)
-        & frame::has_bytes(frame, frame::MORE, frame::EXTRA, &more)
-        & frame::has_bytes(frame, frame::EXTRA, frame::LAST, &extra)
+    let wanted = recorded::inner::eight_bytes(frame, rooms::WORD);
+    let file = rooms::bytes_in(frame, 0, rooms::FIRST, rooms::OUT);
+    let mut out = [rooms::BEFORE; rooms::FILE];
+    let word = fleecebutton::fb_decode_plane(file, rooms::bytes_out(frame, 5, &mut out));
+    (word == wanted) & rooms::has_bytes(frame, rooms::OUT, rooms::MORE, &out)
 }
 
-// The call, with slices of the frame's lengths: those of a function are the first of their kind.
-fn called(function: u8, frame: &[u8], out: &mut [u8], more: &mut [u8], extra: &mut [u8]) -> u64
+pub(crate) fn picture_answered(frame: &[u8]) -> bool
     requires { ⌜ length (now frame) ≡ 36838 ⌝ }
 {
-    let file = frame::bytes_in(frame, 0, frame::FIRST, frame::OUT);
-    let theirs = frame::bytes_in(frame, 1, frame::SECOND, frame::THIRD);
-    let luma = frame::bytes_out(frame, 5, out);
-    let cb = frame::bytes_out(frame, 6, more);
-    let cr = frame::bytes_out(frame, 7, extra);
-    match function {
-        14 => fleecebutton::fb_read_head(file),
-        15 => fleecebutton::fb_decode_plane(file, luma),
-        18 => fleecebutton::fb_decode_picture(file, luma, cb, cr),
-        19 => fleecebutton::fb_inspect(file, theirs),
-        _ => NEVER_SENT,
-    }
+    let wanted = recorded::inner::eight_bytes(frame, rooms::WORD);
+    let file = rooms::bytes_in(frame, 0, rooms::FIRST, rooms::OUT);
+    let mut out = [rooms::BEFORE; rooms::FILE];
+    let mut more = [rooms::BEFORE; rooms::PLANE];
+    let mut extra = [rooms::BEFORE; rooms::CHROMA];
+    let word = fleecebutton::fb_decode_picture(
+        file,
+        rooms::bytes_out(frame, 5, &mut out),
+        rooms::bytes_out(frame, 6, &mut more),
+        rooms::bytes_out(frame, 7, &mut extra),
+    );
+    (word == wanted)
+        & rooms::has_bytes(frame, rooms::OUT, rooms::MORE, &out)
+        & rooms::has_bytes(frame, rooms::MORE, rooms::EXTRA, &more)
+        & rooms::has_bytes(frame, rooms::EXTRA, rooms::LAST, &extra)
 }

@@ -15,9 +15,8 @@ use Rattle.whole.specs.Notation.{minus}
 use Rattle.whole.specs.Range.{inside}
 use Rattle.record.specs.Kinds.{inFours, inChroma, lengthOf}
 use Rattle.head.proofs.Back.{length-head, long-most}
-use Rattle.picture.specs.Both.{Both}
+use Rattle.picture.specs.Both.{Both, pair}
 use Rattle.picture.proofs.Plane.{samples-fit}
-use Rattle.macroblock_chroma.specs.Code.{pair}
 use Rattle.plane.specs.Code.{headFor}
 use Rattle.plane.proofs.Coding.{same-area}
 use Rattle.frame.specs.Code.{frameFrom, bothFrom}

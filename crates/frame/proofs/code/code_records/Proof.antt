@@ -11,9 +11,9 @@ use mir.ValLaws.{toZ-ofZ}
 use Rattle.whole.specs.Notation.{minus}
 use Rattle.whole.specs.Range.{inside}
 use Rattle.record.specs.Kinds.{inChroma, lengthOf}
-use Rattle.picture.specs.Both.{Both}
+use Rattle.picture.specs.Both.{Both, pair}
 use Rattle.macroblock.proofs.RecordFrom.{length-record-from}
-use Rattle.macroblock_chroma.specs.Code.{pair, codedStepChroma}
+use Rattle.macroblock_chroma.specs.Code.{codedStepChroma}
 use Rattle.frame.proofs.CodingFrame.{records-made}
 use Rattle.frame.proofs.code.code_records.Statement.{statement}
 use Rattle.frame.proofs.code.code_records.Tie as tie

@@ -12,9 +12,9 @@ use mir.ValLaws.{toZ-ofZ}
 use Rattle.lists.specs.Parts.{over}
 use Rattle.lists.proofs.Bytes.{bytes-known}
 use Rattle.quantizer.proofs.Offsets.{plane-legal}
-use Rattle.picture.specs.Both.{Both}
+use Rattle.picture.specs.Both.{Both, pair}
 use Rattle.picture.proofs.Plane.{samples-fit}
-use Rattle.macroblock_chroma.specs.Code.{pair, codedStepChroma}
+use Rattle.macroblock_chroma.specs.Code.{codedStepChroma}
 use Rattle.macroblock_chroma.proofs.CodedRecord.{BytesBoth, cbOwn, crOwn, length-both, both-fit, written-chroma}
 use Rattle.macroblock_chroma.proofs.Making.{levels-made, coded-made}
 use Rattle.macroblock_chroma.proofs.Offsets.{offset-fits, PlanesQuantized, both-legal, both-not-refused}

@@ -66,7 +66,7 @@ returns c =
     let f = corner .before in
     let s = f .before .before .before in
     rw (
-      c .in-order .ensures,
+      c .in-one-list .ensures,
       last .four3 .ensures,
       left .before .four2 .ensures,
       right .before .four .ensures,

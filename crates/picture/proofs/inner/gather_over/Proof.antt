@@ -15,7 +15,7 @@ returns c =
     let A = R .before in
     let C = A .before in
     let a = C .before .before .before .args in
-    rw (c .in-order .ensures, L .left-over .ensures, R .right-over .ensures, A .above-over .ensures, C .corner-over .ensures)
+    rw (c .in-one-list .ensures, L .left-over .ensures, R .right-over .ensures, A .above-over .ensures, C .corner-over .ensures)
     (sym (in-groups (a .layout) (a .m) (a .b) (withWhole 16 (a .layout) (a .m) (a .own .now) (a .plane .now))))
 
 pub gather-over-spec : {M : Type 1} → statement M

@@ -39,8 +39,10 @@ returns c =
     let a = start B .args in
     let p = start B .pre in
     let e = B .blocks-to-levels .ensures in
+    let whole =
     coded-whole (a .s) (p .0 .0) (a .quantizer .qp) (a .samples .now) (a .prediction .now) (a .levels .now) _
-    (ap length (front L) ∙ dc-levels-length (blocksOf (a .s)) (side-count (a .s) (p .0 .0)) (a .quantizer .qp) _) (p .1 .1) (e .0 .0) (e .1) (c .before .copy .ensures ∙ front L)
+    (ap length (front L) ∙ dc-levels-length (blocksOf (a .s)) (side-count (a .s) (p .0 .0)) (a .quantizer .qp) _) (p .1 .1) (e .0 .0) (e .1) (c .before .copy .ensures ∙ front L) in
+    (whole, front L ∙ ap (dcLevels (blocksOf (a .s)) (a .quantizer .qp)) (e .0 .0))
 
 pub macroblock-to-levels-spec : {M : Type 1} → statement M
 macroblock-to-levels-spec =

@@ -1,6 +1,7 @@
-// A request's frame: its parts stand in fixed places, and a number has its low byte first (tests/README.md).
+// The rooms of a recorded request, in fixed places of its frame (tests/README.md), and the parts of them that are lent. The crate `recorded` reads
+// its numbers.
 ghost use mathlib.Core.Path.{_≡_};
-ghost use Prim.Native.Nat.{_+_, _≤_, _<_};
+ghost use Prim.Native.Nat.{_≤_, _<_};
 ghost use lib.ListN.{length};
 
 // What every byte of a frame holds at first, and every byte of an output before its call: so a number of an output is four of these.
@@ -43,45 +44,6 @@ pub(crate) const LAST: usize = 35814;
 
 pub(crate) const END: usize = 36838;
 
-fn wide(byte: u8) -> u64
-    ensures { λ r. ⌜ r < 256 ⌝ }
-{
-    byte as u64
-}
-
-// The number of two bytes.
-pub(crate) fn two(part: &[u8], place: usize) -> u64
-    requires { ⌜ place + 2 ≤ length (now part) ⌝ }
-    ensures { λ r. ⌜ r < 65536 ⌝ }
-{
-    wide(part[place]) + 256 * wide(part[place + 1])
-}
-
-pub(crate) fn four(part: &[u8], place: usize) -> u64
-    requires { ⌜ place + 4 ≤ length (now part) ⌝ }
-    ensures { λ r. ⌜ r < 4294967296 ⌝ }
-{
-    two(part, place) + 65536 * two(part, place + 2)
-}
-
-pub(crate) fn eight(part: &[u8], place: usize) -> u64
-    requires { ⌜ place + 8 ≤ length (now part) ⌝ }
-{
-    four(part, place) + 4294967296 * four(part, place + 4)
-}
-
-// The number of four bytes that may be negative: two's complement.
-pub(crate) fn signed(part: &[u8], place: usize) -> i32
-    requires { ⌜ place + 4 ≤ length (now part) ⌝ }
-{
-    let bits = four(part, place);
-    if bits < 2147483648 {
-        bits as i32
-    } else {
-        !((4294967295 - bits) as i32)
-    }
-}
-
 // A picture's size and the rows of a slice, which are the first arguments of a coder.
 pub(crate) struct Size {
     pub(crate) width: usize,
@@ -92,9 +54,9 @@ pub(crate) struct Size {
 pub(crate) fn size_in(frame: &[u8]) -> Size
     requires { ⌜ length (now frame) ≡ 36838 ⌝ }
 {
-    let width = eight(frame, 0) as usize;
-    let height = eight(frame, 8) as usize;
-    let rows = eight(frame, 16) as usize;
+    let width = recorded::inner::eight_bytes(frame, 0) as usize;
+    let height = recorded::inner::eight_bytes(frame, 8) as usize;
+    let rows = recorded::inner::eight_bytes(frame, 16) as usize;
     Size {
         width: width,
         height: height,
@@ -102,23 +64,12 @@ pub(crate) fn size_in(frame: &[u8]) -> Size
     }
 }
 
-pub(crate) fn numbers(part: &[u8]) -> [i32; 17]
-    requires { ⌜ length (now part) ≡ 68 ⌝ }
-    ensures { λ r. ⌜ length r ≡ 17 ⌝ }
-{
-    let mut list = [0i32; NUMBERS];
-    for k in 0..NUMBERS {
-        list[k] = signed(part, 4 * k);
-    }
-    list
-}
-
 // The length of a slice, cut to the room there is.
 fn lent(frame: &[u8], slice: usize, room: usize) -> usize
     requires { ⌜ (slice < 9) × (length (now frame) ≡ 36838) ⌝ }
     ensures { λ r. ⌜ r ≤ room ⌝ }
 {
-    let length = two(frame, LENGTHS + 2 * slice) as usize;
+    let length = recorded::inner::two_bytes(frame, LENGTHS + 2 * slice) as usize;
     if length < room { length } else { room }
 }
 
@@ -151,16 +102,6 @@ pub(crate) fn numbers_out<'a>(frame: &[u8], slice: usize, room: &'a mut [i32]) -
 {
     let length = lent(frame, slice, room.len());
     &mut room[0..length]
-}
-
-// Whether an output of numbers is left as expected.
-pub(crate) fn same_numbers(a: [i32; 17], b: [i32; 17]) -> bool {
-    for k in 0..NUMBERS {
-        if a[k] != b[k] {
-            return false;
-        }
-    }
-    true
 }
 
 // Whether an output of bytes is left as it stands between two places of the frame.
