@@ -1,7 +1,6 @@
 pub mod Demand1
 pub mod Demand2
 pub mod Demand3
-pub mod Inspected
 pub mod Laws
 pub mod Sent
 pub mod Useless

@@ -1,21 +1,13 @@
--- The four useless builds (01, "What the stamp covers"), each contradicted at a named input, of any call of the exported function that is given
--- this input. The evaluations are those of the crates below.
---     fb-one-accepted                           refuses everything: a picture of one macroblock at QP 51 is coded
---     fb-vertical-chosen                        gives DC always: neighbours and samples of 100, all present: mode 0, SAD 0
---     fb-levels-not-zero, fb-rebuilt-not-grey   gives zeros and grey always: samples of 138 beside nothing, at QP 28: the first level is 2, and every
---                                               rebuilt sample is 136, neither 128 nor the original's 138
---     fb-plane-written, fb-file-written, fb-decoded-written     writes nothing: where 7 stood, a rebuilt sample of the coder, a byte of the file and
---                                               a sample of the decoder are others; and what stood behind the file is there still
---     fb-own-record                             codes macroblock 0 and copies it onward: record m of the file of any successful call is what macroblock
---                                               m's own samples give, and bears the number m
---     fb-record-not-copied                      so of two macroblocks record 1 is no copy of record 0
+-- The four useless builds (`specs/Useless`). The evaluations are those of the crates below.
+--     fb-one-accepted, fb-vertical-chosen, fb-levels-not-zero, fb-rebuilt-not-grey, fb-plane-written, fb-decoded-written, fb-file-written,
+--     fb-own-record, fb-own-number, fb-record-not-copied     the claims of these names
+--     useless-shut-out     all claims
 -- Assumes nothing.
 use mathlib.Core.Path.{_≡_, refl, sym, ap, _∙_}
-use mathlib.Core.List.{List, _∷_}
-use Prim.Native.Nat.{ℕ, _*_, _<_}
+use mathlib.Core.List.{List}
+use Prim.Native.Nat.{ℕ, _*_}
 use native.Mathlib.Omega.{arith}
-use lib.IntN.{ℤ, pos}
-use lib.ListN.{length, take, getD, replicate}
+use lib.ListN.{length, getD, replicate}
 use Rattle.lists.specs.Bytes as octets
 use Rattle.lists.specs.Chain.{pass, chain}
 use Rattle.lists.specs.Tab.{tab, grid}
@@ -25,14 +17,9 @@ use Rattle.block.proofs.Witness.{vertical-chosen, example-levels, rebuilt-is-no
 use Rattle.head.specs.Entry.{sizeHolds, rowsHold}
 use Rattle.record.specs.Kinds.{expectedIn}
 use Rattle.record.specs.Records.{numberIn}
-use Rattle.picture.specs.declared.Layout.{Layout}
 use Rattle.picture.specs.Plane.{planeLength}
-use Rattle.macroblock.specs.Code.{recordFrom}
-use Rattle.macroblock.proofs.Witness.{lightCorner}
-use Rattle.macroblock4.proofs.Witness.{beside}
-use Rattle.plane.specs.Code.{inSlices, behindHead, planeBefore, codePlaneTests, codedFile, CodesPlane}
+use Rattle.plane.specs.Code.{inSlices, behindHead, codedFile}
 use Rattle.plane.specs.Decode.{recordIn, cleared}
-use Rattle.plane.specs.declared.CodedPlane.the-variants.{Bytes}
 use Rattle.plane.proofs.CodedFile.{own-on}
 use Rattle.plane.proofs.CodedOutcome.{outcome}
 use Rattle.plane.proofs.OwnWitness.{grey-written, rest-kept}
@@ -41,105 +28,100 @@ use Rattle.plane.proofs.Witness.{one-is-accepted}
 use Rattle.fleecebutton.specs.Sends.{CodeBlockSends, CodePlaneSends}
 use Rattle.fleecebutton.specs.Word.{choiceValue}
 use Rattle.turned.proofs.Calls.{done-word}
-use Rattle.stamp.specs.Answers.{Succeeds, valueTold}
-use Rattle.stamp.specs.Calls.{BlockCall, blockGiven, blockLevelsAfter, blockRebuiltAfter, CodingCall, codingGiven, codingWidth, codingHeight, codingRows, codingQuantizer, codingPlane, codingFileAfter, codingRebuiltAfter, DecodingCall, decodingFile, decodingPlaneBefore, decodingPlaneAfter}
+use Rattle.stamp.specs.Answers.{Succeeds}
+use Rattle.stamp.specs.Calls.{fb-code-block, fb-code-plane, CallOf, Contents, word, given, before, after}
+use Rattle.stamp.specs.Demand1.{testsOf}
+use Rattle.stamp.specs.Useless as paper
+use Rattle.stamp.specs.Useless.{PlaneAt, UselessClaim, Useless}
 use Rattle.stamp.proofs.Demand2.{fb-plane-agrees}
-use Rattle.stamp.proofs.Sent.{sent-plane}
+use Rattle.stamp.proofs.Sent.{PlaneCoded, sent-plane}
 
--- ---- a plane
+-- ---- the readings at a named input
 
-module _ (width height rows qp : ℕ) (plane file rebuilt : List ℕ) (c : CodingCall) (e : codingGiven c ≡ (width, height, rows, qp, plane, file, rebuilt)) where
-  -- the reading at this input
-  sends-at : CodePlaneSends width height rows qp plane file rebuilt (c .word) (codingFileAfter c) (codingRebuiltAfter c)
-  sends-at = coe 0 1 (i. CodePlaneSends (e i .0) (e i .1) (e i .2) (e i .3) (e i .4) (e i .5) (e i .6) (c .word) (codingFileAfter c) (codingRebuiltAfter c)) (c .learnt)
+module _ (g : Contents fb-code-plane .0) (o : Contents fb-code-plane .1) (c : CallOf fb-code-plane) (e : (given c ≡ g) × (before c ≡ o)) where
+  accepted : chain (testsOf fb-code-plane g o) ≡ pass → Succeeds (word c)
+  accepted v =
+      let s : CodePlaneSends (g .width) (g .height) (g .rows) (g .qp) (g .plane) (o .file) (o .rebuilt) (word c) (after c .file) (after c .rebuilt) =
+      coe 0 1 (i. CodePlaneSends (e .0 i .width) (e .0 i .height) (e .0 i .rows) (e .0 i .qp) (e .0 i .plane) (e .1 i .file) (e .1 i .rebuilt)
+      (word c) (after c .file) (after c .rebuilt)) (c .call .learnt) in
+      done-word (testsOf fb-code-plane g o) (length (codedFile (inSlices (g .width) (g .height) (g .rows)) (g .qp) (g .plane))) (s .word) v
 
-  accepted : chain (codePlaneTests width height rows qp plane file rebuilt) ≡ pass → Succeeds (c .word)
-  accepted v = done-word (codePlaneTests width height rows qp plane file rebuilt) (length (codedFile (inSlices width height rows) qp plane)) (sends-at .word) v
+  coded : Succeeds (word c) → PlaneCoded g o (word c) (after c)
+  coded d = coe 0 1 (i. PlaneCoded (e .0 i) (e .1 i) (word c) (after c)) (sent-plane c d)
 
-  codes-at : Succeeds (c .word) → CodesPlane width height rows qp plane file rebuilt (Bytes (valueTold (c .word))) (codingFileAfter c) (codingRebuiltAfter c)
-  codes-at d =
-      coe 0 1 (i. CodesPlane (e i .0) (e i .1) (e i .2) (e i .3) (e i .4) (e i .5) (e i .6) (Bytes (valueTold (c .word))) (codingFileAfter c) (codingRebuiltAfter c))
-      (sent-plane c d)
+module _ (g : Contents fb-code-block .0) (o : Contents fb-code-block .1) (c : CallOf fb-code-block) (e : (given c ≡ g) × (before c ≡ o)) where
+  block-at : CodeBlockSends (g .qp) (g .flags) (g .neighbours) (g .samples) (o .levels) (o .rebuilt) (word c) (after c .levels) (after c .rebuilt)
+  block-at =
+      coe 0 1 (i. CodeBlockSends (e .0 i .qp) (e .0 i .flags) (e .0 i .neighbours) (e .0 i .samples) (e .1 i .levels) (e .1 i .rebuilt)
+      (word c) (after c .levels) (after c .rebuilt)) (c .call .learnt)
 
--- refuses everything
-pub fb-one-accepted : (c : CodingCall) → codingGiven c ≡ (1, 1, 1, 51, replicate 256 138, replicate 535 7, replicate 256 7) → Succeeds (c .word)
-fb-one-accepted c e = accepted 1 1 1 51 (replicate 256 138) (replicate 535 7) (replicate 256 7) c e one-is-accepted
+-- ---- refuses everything
 
--- ---- a block
+pub fb-one-accepted : Useless paper.fb-one-accepted
+fb-one-accepted c e = accepted _ _ c e one-is-accepted
 
-module _ (qp flags : ℕ) (n s : List ℕ) (l : List ℤ) (o : List ℕ) (c : BlockCall) (e : blockGiven c ≡ (qp, flags, n, s, l, o)) where
-  block-at : CodeBlockSends qp flags n s l o (c .word) (blockLevelsAfter c) (blockRebuiltAfter c)
-  block-at = coe 0 1 (i. CodeBlockSends (e i .0) (e i .1) (e i .2) (e i .3) (e i .4) (e i .5) (c .word) (blockLevelsAfter c) (blockRebuiltAfter c)) (c .learnt)
+-- ---- gives DC, zeros and grey always
 
--- gives DC always: the word of mode 0 and SAD 0
-pub fb-vertical-chosen : (c : BlockCall) → blockGiven c ≡ (28, 15, replicate 13 100, replicate 16 100, replicate 16 (pos 7), replicate 16 7) → c .word ≡ 0
-fb-vertical-chosen c e =
-    block-at 28 15 (replicate 13 100) (replicate 16 100) (replicate 16 (pos 7)) (replicate 16 7) c e .word
-    ∙ ap (λ (b : Best). 256 * choiceValue b) vertical-chosen
+pub fb-vertical-chosen : Useless paper.fb-vertical-chosen
+fb-vertical-chosen c e = block-at _ _ c e .word ∙ ap (λ (b : Best). 256 * choiceValue b) vertical-chosen
 
--- gives zeros always
-pub fb-levels-not-zero : (c : BlockCall) → blockGiven c ≡ (28, 0, replicate 13 77, replicate 16 138, replicate 16 (pos 7), replicate 16 7)
-    → blockLevelsAfter c ≡ pos 2 ∷ replicate 15 (pos 0)
-fb-levels-not-zero c e = block-at 28 0 (replicate 13 77) (replicate 16 138) (replicate 16 (pos 7)) (replicate 16 7) c e .levels ∙ example-levels
+pub fb-levels-not-zero : Useless paper.fb-levels-not-zero
+fb-levels-not-zero c e = block-at _ _ c e .levels ∙ example-levels
 
--- gives grey always
-pub fb-rebuilt-not-grey : (c : BlockCall) → blockGiven c ≡ (28, 0, replicate 13 77, replicate 16 138, replicate 16 (pos 7), replicate 16 7)
-    → blockRebuiltAfter c ≡ replicate 16 136
-fb-rebuilt-not-grey c e = block-at 28 0 (replicate 13 77) (replicate 16 138) (replicate 16 (pos 7)) (replicate 16 7) c e .rebuilt ∙ rebuilt-is-not-original
+pub fb-rebuilt-not-grey : Useless paper.fb-rebuilt-not-grey
+fb-rebuilt-not-grey c e = block-at _ _ c e .rebuilt ∙ rebuilt-is-not-original
 
 -- ---- writes nothing
 
-module _ (c : CodingCall) (e : codingGiven c ≡ (1, 1, 1, 28, replicate 256 138, replicate 535 7, replicate 256 7)) where
-  grey-accepted : Succeeds (c .word)
-  unfolding sizeHolds rowsHold
-  grey-accepted = accepted 1 1 1 28 (replicate 256 138) (replicate 535 7) (replicate 256 7) c e refl
+grey-accepted : (c : CallOf fb-code-plane) → PlaneAt 1 28 (replicate 256 138) 535 c → Succeeds (word c)
+unfolding sizeHolds rowsHold
+grey-accepted c e = accepted _ _ c e refl
 
-  pub fb-plane-written : getD (codingRebuiltAfter c) 0 0 ≡ 136
-  fb-plane-written = grey-written _ _ _ (codes-at 1 1 1 28 (replicate 256 138) (replicate 535 7) (replicate 256 7) c e grey-accepted)
+pub fb-plane-written : Useless paper.fb-plane-written
+fb-plane-written c e = grey-written _ _ _ (coded _ _ c e (grey-accepted c e))
 
-  -- the decoder too, of the bytes used
-  pub fb-decoded-written : (d : DecodingCall) → decodingFile d ≡ take (valueTold (c .word)) (codingFileAfter c) → decodingPlaneBefore d ≡ replicate 256 7
-      → getD (decodingPlaneAfter d) 0 0 ≡ 136
-  fb-decoded-written d file room =
-      let long : length (decodingPlaneBefore d) ≡ planeLength 16 (inSlices (codingWidth c) (codingHeight c) (codingRows c)) =
-      ap length room ∙ (λ i. planeLength 16 (inSlices (sym e i .0) (sym e i .1) (sym e i .2))) in
-      let bytes = coe 0 1 (i. octets.Bytes (sym e i .4)) (bytes-replicate 256 {a = 138} (omega arith)) in
-      ap (λ (p : List ℕ). getD p 0 0) (fb-plane-agrees c d grey-accepted bytes file long .1) ∙ fb-plane-written
+pub fb-decoded-written : Useless paper.fb-decoded-written
+fb-decoded-written c e d file room =
+    let long : length (before d) ≡ planeLength 16 (inSlices (given c .width) (given c .height) (given c .rows)) =
+    ap length room ∙ (λ i. planeLength 16 (inSlices (sym (e .0) i .width) (sym (e .0) i .height) (sym (e .0) i .rows))) in
+    let bytes = coe 0 1 (i. octets.Bytes (sym (e .0) i .plane)) (bytes-replicate 256 {a = 138} (omega arith)) in
+    ap (λ (p : List ℕ). getD p 0 0) (fb-plane-agrees c d (grey-accepted c e) bytes file long .1) ∙ fb-plane-written c e
 
-pub fb-file-written : (c : CodingCall) → codingGiven c ≡ (1, 1, 1, 28, lightCorner, replicate 535 7, replicate 256 7)
-    → (getD (codingFileAfter c) 9 0 ≡ 54) × (getD (codingFileAfter c) 528 0 ≡ 7)
+pub fb-file-written : Useless paper.fb-file-written
 unfolding sizeHolds rowsHold grid tab
-fb-file-written c e =
-    rest-kept _ _ _
-    (codes-at 1 1 1 28 lightCorner (replicate 535 7) (replicate 256 7) c e (accepted 1 1 1 28 lightCorner (replicate 535 7) (replicate 256 7) c e refl))
+fb-file-written c e = rest-kept _ _ _ (coded _ _ c e (accepted _ _ c e refl))
 
 -- ---- codes macroblock 0 and copies it onward
 
-module _ (c : CodingCall) (d : Succeeds (c .word)) (m : ℕ) (h : m < codingWidth c * codingHeight c) where
-  abbrev l : Layout
-  l = inSlices (codingWidth c) (codingHeight c) (codingRows c)
+pub fb-own-record : Useless paper.fb-own-record
+fb-own-record c d m h =
+    let g = given c in
+    let l = inSlices (g .width) (g .height) (g .rows) in
+    ap (λ (file : List ℕ). recordIn file (behindHead l) m) (outcome _ _ _ _ _ _ _ _ _ _ (sent-plane c d) .filed)
+    ∙ own-record-in l (g .qp) (g .plane) (cleared (planeLength 16 l)) m h
 
-  abbrev start : List ℕ
-  start = cleared (planeLength 16 l)
+pub fb-own-number : Useless paper.fb-own-number
+unfolding expectedIn
+fb-own-number c d m h =
+    let g = given c in
+    let l = inSlices (g .width) (g .height) (g .rows) in
+    ap numberIn (fb-own-record c d m h) ∙ own-on l (g .qp) (g .plane) (cleared (planeLength 16 l)) m .numbered
 
-  pub fb-own-record : recordIn (take (valueTold (c .word)) (codingFileAfter c)) (behindHead l) m
-      ≡ recordFrom l (codingQuantizer c) (codingPlane c) m (planeBefore l (codingQuantizer c) (codingPlane c) start m)
-  fb-own-record =
-      ap (λ (file : List ℕ). recordIn file (behindHead l) m) (outcome _ _ _ _ _ _ _ _ _ _ (sent-plane c d) .filed)
-      ∙ own-record-in l (codingQuantizer c) (codingPlane c) start m h
-
-  pub fb-own-number : numberIn (recordIn (take (valueTold (c .word)) (codingFileAfter c)) (behindHead l) m) ≡ m
-  unfolding expectedIn
-  fb-own-number = ap numberIn fb-own-record ∙ own-on l (codingQuantizer c) (codingPlane c) start m .numbered
-
-pub fb-record-not-copied : (c : CodingCall) → codingGiven c ≡ (2, 1, 1, 28, beside 128 138, replicate 1062 7, replicate 512 7)
-    → (numberIn (recordIn (take (valueTold (c .word)) (codingFileAfter c)) 8 0) ≡ 0) × (numberIn (recordIn (take (valueTold (c .word)) (codingFileAfter c)) 8 1) ≡ 1)
+pub fb-record-not-copied : Useless paper.fb-record-not-copied
 unfolding sizeHolds rowsHold tab
 fb-record-not-copied c e =
-    let d = accepted 2 1 1 28 (beside 128 138) (replicate 1062 7) (replicate 512 7) c e refl in
-    let count : 2 ≡ codingWidth c * codingHeight c = λ i. sym e i .0 * sym e i .1 in
-    let head : behindHead (inSlices (codingWidth c) (codingHeight c) (codingRows c)) ≡ 8 = λ i. behindHead (inSlices (e i .0) (e i .1) (e i .2)) in
-    let file = take (valueTold (c .word)) (codingFileAfter c) in (
-      ap (λ (k : ℕ). numberIn (recordIn file k 0)) (sym head) ∙ fb-own-number c d 0 (omega (arith, count)),
-      ap (λ (k : ℕ). numberIn (recordIn file k 1)) (sym head) ∙ fb-own-number c d 1 (omega (arith, count)),
-    )
+    let d = accepted _ _ c e refl in
+    let count : 2 ≡ given c .width * given c .height = λ i. sym (e .0) i .width * sym (e .0) i .height in
+    (fb-own-number c d 0 (omega (arith, count)), fb-own-number c d 1 (omega (arith, count)))
+
+pub useless-shut-out : (k : UselessClaim) → Useless k
+useless-shut-out paper.fb-one-accepted = fb-one-accepted
+useless-shut-out paper.fb-vertical-chosen = fb-vertical-chosen
+useless-shut-out paper.fb-levels-not-zero = fb-levels-not-zero
+useless-shut-out paper.fb-rebuilt-not-grey = fb-rebuilt-not-grey
+useless-shut-out paper.fb-plane-written = fb-plane-written
+useless-shut-out paper.fb-decoded-written = fb-decoded-written
+useless-shut-out paper.fb-file-written = fb-file-written
+useless-shut-out paper.fb-own-record = fb-own-record
+useless-shut-out paper.fb-own-number = fb-own-number
+useless-shut-out paper.fb-record-not-copied = fb-record-not-copied

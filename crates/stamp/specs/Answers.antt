@@ -4,6 +4,7 @@ use mathlib.Core.Path.{_≡_}
 use mathlib.Core.List.{List}
 use mathlib.Core.Logic.{_↔_}
 use Prim.Native.Nat.{ℕ, _/_, _%_}
+use lib.ListN.{take}
 use Rattle.lists.specs.Chain.{Test, AllPass, RefusedWith}
 use Rattle.refusal.specs.Number.{numberOf, placeOf}
 use Rattle.refusal.specs.declared.Refusal.{Refusal}
@@ -23,6 +24,10 @@ modeTold w = valueTold w % 16
 
 abbrev pub sadTold : ℕ → ℕ
 sadTold w = valueTold w / 16
+
+-- where a file is written: the bytes of the area that it takes, whose number is the value
+abbrev pub writtenFile : ℕ → (area : List ℕ) → List ℕ
+writtenFile w area = take (valueTold w) area
 
 -- "A refusal is a number and a place": the word has those of r, the place up to 2^56
 pub record Tells (w : ℕ) (r : Refusal) : Type 0 where
