@@ -36,19 +36,25 @@ pub fn lacking(samples: &[u8], prediction: [u8; 16]) -> [i32; 16]
     residual
 }
 
-// The levels are rescaled as they stand, in raster order: the zigzag order is for the caller alone.
+// The levels are rescaled as they stand, in raster order: the zigzag order is for the caller alone. A prediction that lacks nothing has levels 0
+// and is what is rebuilt.
 pub fn coded(quantizer: Quantizer, neighbours: &[u8], flags: u8, samples: &[u8]) -> Block
     requires { ⌜ (quantizer .qp ≤ highest) × (length (now neighbours) ≡ 13) × (length (now samples) ≡ 16) ⌝ }
     ensures { λ r. ⌜ Carries (quantizer .qp) (mask (now (neighbours .entry)) flags) (now (samples .entry)) r ⌝ }
 {
     let choice = intra4::inner::chosen(neighbours, flags, samples);
     let prediction = choice.prediction;
-    let levels = residual::inner::quantized(quantizer, lacking(samples, prediction));
-    let numbers = residual::inner::rescaled(quantizer, levels);
+    let mut levels = [0i32; 16];
+    let mut rebuilt = prediction;
+    if 0 < choice.sad {
+        let raster = residual::inner::quantized(quantizer, lacking(samples, prediction));
+        levels = residual::inner::in_zigzag(raster);
+        rebuilt = residual::inner::rebuilt(quantizer, prediction, raster);
+    }
     Block {
         mode: choice.mode,
         sad: choice.sad,
-        levels: residual::inner::in_zigzag(levels),
-        rebuilt: residual::inner::samples(prediction, numbers),
+        levels,
+        rebuilt,
     }
 }

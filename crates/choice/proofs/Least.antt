@@ -2,12 +2,13 @@
 --     best-is, best-least    over any number of modes and any costs
 --     one-least              there is one such mode at most
 --     some-best              where a mode is permitted there is a best
+--     zero-best              a mode that costs nothing is the best, if no lower one costs nothing: what costs 0 cannot be beaten by a higher number
 --     best-same              equal costs have the same best
 --     clash, same            a cost is one thing
 -- Assumes nothing.
-use mathlib.Core.Path.{_≡_, refl, ap, subst}
+use mathlib.Core.Path.{_≡_, refl, ap, subst, _∙_}
 use mathlib.Core.Bool.{Bool, true, false, cond}
-use Prim.Native.Nat.{ℕ, zero, suc, _<_, _≤_}
+use Prim.Native.Nat.{ℕ, zero, suc, _<_, _≤_, zero-le}
 use native.Mathlib.Nat.{not-suc-le-zero}
 use native.Mathlib.Numerals.{add-one}
 use native.Mathlib.Omega.{arith}
@@ -97,3 +98,18 @@ best-same n c d h =
 pub some-best : (n : ℕ) (cost : ℕ → Cost) (j d : ℕ) → j < n → cost j ≡ is d → (b : Best) → Good n cost b → (m : ℕ) × (s : ℕ) × (b ≡ at m s) × Least n cost m s
 some-best n cost j d l e nothing g = clash e (g j l)
 some-best n cost j d l e (at m s) g = (m, s, refl, g)
+
+some : (d : ℕ) → (d ≡ 0 → ⊥) → 0 < d
+some zero h = absurd (h refl)
+some (suc d) h = omega arith
+
+pub zero-best : (n : ℕ) (cost : ℕ → Cost) (m : ℕ) → m < n → cost m ≡ is 0 → ((j : ℕ) → j < m → cost j ≡ is 0 → ⊥) → bestOf n cost ≡ at m 0
+zero-best n cost m l e before =
+    let w = some-best n cost m 0 l e (bestOf n cost) (best-is n cost) in
+    let u = one-least n cost (w .0) (w .1) m 0 (w .3) (record {
+      within = l;
+      costs = e;
+      least = λ j k d q. zero-le;
+      lower = λ j k d q. some d (λ z. before j k (q ∙ ap is z));
+    }) in
+    w .2 ∙ (λ i. at (u .0 i) (u .1 i))

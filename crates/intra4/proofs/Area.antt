@@ -1,6 +1,6 @@
 -- The area of all nine predictions, and the search over it.
 --     area-looked, area-passed                       one mode is looked at, or is not permitted
---     length-filled, permitted-cost                  each of the nine has sixteen samples; a mode that has a cost is permitted
+--     length-filled, permitted-cost, cost-is         each of the nine has sixteen samples; a mode that has a cost is permitted; and its cost is this
 --     picked                                         what it finds is the choice round the block, and its part of the area the samples
 -- Assumes nothing.
 use mathlib.Core.Path.{_≡_, refl, sym, ap, ap₂, subst, _∙_}
@@ -73,6 +73,12 @@ module _ (n : List ℕ) (f : ℕ) (block : List ℕ) (e : length n ≡ 13) where
 
   pub permitted-cost : (m s : ℕ) → costsOf (mask n f) block m ≡ is s → permitted f m ≡ true
   permitted-cost m s c = cost-holds 4 block (permitted f m) _ (predicted-is n f m e) c
+
+  pub cost-is : {t s : List ℕ} → t ≡ topRow n f → s ≡ leftRow n → (m : ℕ) → permitted f m ≡ true → costsOf (mask n f) block m ≡ is (sad 16 (filled t s f m) block)
+  cost-is {t} {s} p q m a =
+      ap (costOf 4 block) (predicted-is n f m e)
+      ∙ sym (cond-cost (permitted f m) block (filled (topRow n f) (leftRow n) f m))
+      ∙ rw a (λ i. is (sad 16 (filled (sym p i) (sym q i) f m) block))
 
   module _ {t s area : List ℕ} {b : Standing} (p : t ≡ topRow n f) (q : s ≡ leftRow n) (a : area ≡ areaFilled t s f) (h : b ≡ standing (bestOf 9 (areaCost area f block))) where
     pub picked-mode : b .mode < 9

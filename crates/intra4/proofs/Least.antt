@@ -1,19 +1,20 @@
 -- The chosen mode is what the paper states: a permitted mode, no permitted mode costs less, every lower one costs more.
 --     some-mode                                     DC is always permitted, so there always is a choice
 --     least, lower-on-tie, sad-is-the-sum           of the chosen mode
+--     lacks-nothing                                 its samples are the block's own where the SAD is 0
 --     cost-holds, cost-low                          what has a cost has samples, and costs at most 255 a sample; over n by n
 -- Assumes nothing.
-use mathlib.Core.Path.{_≡_, refl, sym, ap}
+use mathlib.Core.Path.{_≡_, refl, sym, ap, _∙_}
 use mathlib.Core.Bool.{Bool, true, false, cond}
 use mathlib.Core.List.{List}
 use Prim.Native.Nat.{ℕ, _*_, _<_, _≤_}
 use native.Mathlib.Omega.{arith}
-use lib.ListN.{getD}
+use lib.ListN.{length, getD}
 use Rattle.lists.specs.Total.{total, gap}
 use Rattle.lists.specs.Bytes.{Bytes}
 use Rattle.choice.specs.Choice.{is, at, bestOf, Least, sad}
 use Rattle.choice.proofs.Least.{best-is, best-least, some-best, clash, same}
-use Rattle.choice.proofs.Sad.{sad-low}
+use Rattle.choice.proofs.Sad.{sad-low, sad-zero}
 use Rattle.intra4.specs.Samples.{Round}
 use Rattle.intra4.specs.Rules.{Predicted, samples, none, samplesOf, predicted}
 use Rattle.intra4.specs.Choice.{costOf, costsOf, chosen}
@@ -54,3 +55,7 @@ module _ (r : Round) (block : List ℕ) where
     -- the SAD that comes back is the sum over the chosen mode's own samples
     pub sad-is-the-sum : s ≡ total 16 (λ k. gap (getD (samplesOf (predicted r m)) k 0) (getD block k 0))
     sad-is-the-sum = cost-sum 4 block (predicted r m) (chosen-least .costs)
+
+    pub lacks-nothing : s ≡ 0 → length (samplesOf (predicted r m)) ≡ 16 → length block ≡ 16 → samplesOf (predicted r m) ≡ block
+    unfolding sad
+    lacks-nothing nothing-left sixteen long = sad-zero 16 (samplesOf (predicted r m)) block sixteen long (sym sad-is-the-sum ∙ nothing-left)

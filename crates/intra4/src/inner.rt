@@ -71,7 +71,7 @@ pub fn fill(neighbours: &[u8], flags: u8, mode: u8, out: &mut [u8])
     fills::put(top, left, flags, mode, out);
 }
 
-// The permitted mode with the least SAD, the lower number on a tie; its samples are written.
+// The same, found at once where vertical prediction fits exactly, or else horizontal does: no higher number can cost less than nothing.
 pub(crate) fn pick(neighbours: &[u8], flags: u8, samples: &[u8], prediction: &mut [u8]) -> Standing
     requires { ⌜ (length (now neighbours) ≡ 13) × (length (now samples) ≡ 16) × (length (now prediction) ≡ 16) ⌝ }
     ensures { λ r. ⌜ Picks (mask (now (neighbours .entry)) flags) (now (samples .entry)) (withSamples r (now (prediction .exit))) ⌝ }
@@ -79,6 +79,14 @@ pub(crate) fn pick(neighbours: &[u8], flags: u8, samples: &[u8], prediction: &mu
     let rows = samples::resolve(neighbours, flags);
     let top = rows.top;
     let left = rows.left;
+    if search::vertical_fits(top, left, flags, samples) {
+        bytes::copy(samples, prediction);
+        return Standing { mode: 0, cost: 0 };
+    }
+    if search::horizontal_fits(top, left, flags, samples) {
+        bytes::copy(samples, prediction);
+        return Standing { mode: 1, cost: 0 };
+    }
     let mut area = [0u8; 144];
     fills::put_all(top, left, flags, &mut area);
     let best = search::best(&area, flags, samples);

@@ -2,28 +2,33 @@
 --     wins-whole, wins-fours                              an area of 256 levels is handed back whole
 --     record-whole, step-whole, record-fours, step-fours  the record and the step, by the comparison that the code makes
 --     whole-done, fours-done                              with the record written and the samples stored, all that the call has to leave
+--     candidate-before                                    16x16 coded beside the samples of 4x4 is as it were beside the plane before them
+--     not-below                                           where 16x16 was left out, it is no cheaper either
 --     sixteen-over                                        the samples of 16x16 stored over those of 4x4: storing forgets what stood there
 -- Assumes nothing.
 use mathlib.Core.Path.{_≡_, sym, ap, _∙_}
 use mathlib.Core.List.{List}
-use Prim.Native.Nat.{ℕ, _<_, _≤_}
+use Prim.Native.Nat.{ℕ, zero, suc, _<_, _≤_, zero-le}
 use native.Mathlib.Omega.{arith}
 use borrow.Author.Tests.{lt-ltb, le-ltb}
 use lib.IntN.{ℤ}
 use lib.ListN.{length}
 use lib.Seq.{take-all}
 use Rattle.lists.specs.Parts.{over}
+use Rattle.choice.specs.declared.inner.Standing.{Standing}
 use Rattle.record.specs.Kinds.{inFours, inWhole, lengthOf}
 use Rattle.record.specs.Records.{recordOf, recordWhole}
 use Rattle.picture.specs.declared.Layout.{Layout}
 use Rattle.picture.specs.Order.{countOf}
 use Rattle.picture.specs.Plane.{planeLength}
 use Rattle.picture.specs.Whole.{withWhole, gatheredRound}
+use Rattle.picture.proofs.Round.{gathered-round-looks}
+use Rattle.picture.proofs.Steps.{looks-after}
 use Rattle.picture.proofs.Whole.{whole-forgets}
 use Rattle.macroblock4.specs.Code.{modesFrom, sadsFrom, blocksFrom, recordFrom4, codedStep4}
 use Rattle.macroblock4.proofs.Looks.{coded-step4}
 use Rattle.macroblock4.proofs.RecordFrom.{length-record-from4}
-use Rattle.macroblock16.specs.Code.{modeFrom16, sadFrom16, levelsFrom16, recordFrom16, codedStep16}
+use Rattle.macroblock16.specs.Code.{modeFrom16, sadFrom16, levelsFrom16, predictionFrom16, recordFrom16, codedStep16, Candidate}
 use Rattle.macroblock16.proofs.CodedRecord.{length-record-from16}
 use Rattle.macroblock.specs.Code.{recordFrom, codedStep}
 use Rattle.macroblock.specs.Winner.{winning}
@@ -78,6 +83,24 @@ module _ (l : Layout) (qp : ℕ) (original : List ℕ) (m : ℕ) (before : List 
   fours-done file h is-number is-modes is-levels wrote step =
       let is = (λ i. recordOf m (is-number i) (is-modes i) (is-levels i)) ∙ sym (record-fours h) in
       (wrote .0 ∙ sym (ap length (record-fours h) ∙ length-record-from4 l qp original m before), (wrote .1 ∙ ap (λ (r : List ℕ). over r file) is, step ∙ sym (step-fours h)))
+
+-- ---- 16x16 behind 4x4
+
+pub candidate-before : (l : Layout) → 0 < l .width → (m : ℕ) → m < countOf l → (qp : ℕ) (original before : List ℕ) → length before ≡ planeLength 16 l
+    → {after : List ℕ} {found : Standing} {levels : List ℤ} {prediction : List ℕ} → after ≡ codedStep4 l qp original m before
+    → Candidate l m qp original after found levels prediction → Candidate l m qp original before found levels prediction
+candidate-before l some m among qp original before long step c =
+    let seen = ap (gatheredRound 16 l m) step ∙ looks-after 16 l m (gatheredRound 16 l m) (gathered-round-looks l some m among 16 (omega arith)) (coded-step4 l some m among qp original) before long in
+    record {
+      mode = c .mode ∙ ap (modeFrom16 l original m) seen;
+      sad = c .sad ∙ ap (sadFrom16 l original m) seen;
+      coded = c .coded ∙ ap (levelsFrom16 l qp original m) seen;
+      shown = c .shown ∙ ap (predictionFrom16 l original m) seen;
+    }
+
+pub not-below : (apart : ℕ) {together least : ℕ} → (0 < apart → together ≡ least) → apart ≤ together → apart ≤ least
+not-below zero is h = zero-le
+not-below (suc apart) is h = omega (arith, is (omega arith))
 
 -- ---- 16x16 over 4x4
 

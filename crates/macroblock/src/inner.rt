@@ -1,19 +1,23 @@
 // What a picture asks of one macroblock: whether its record's content is fine, its samples and its step by that record, and its record and step when coded.
 ghost use mathlib.Core.Path.{_≡_};
-ghost use Prim.Native.Nat.{_≤_};
+ghost use Prim.Native.Nat.{_<_, _≤_};
 ghost use lib.ListN.{length};
 ghost use Rattle.lists.specs.Chain.{chain, pass};
 ghost use Rattle.lists.specs.Parts.{over};
 ghost use Rattle.refusal.specs.Number.{said};
 ghost use Rattle.quantizer.specs.Range.{highest};
+ghost use Rattle.choice.specs.Choice.{nothing};
+ghost use Rattle.choice.specs.Code.{standing};
 ghost use Rattle.record.specs.Kinds.{inFours, lengthOf};
 ghost use Rattle.picture.specs.Order.{Among};
 ghost use Rattle.picture.specs.Plane.{planeLength};
 ghost use Rattle.picture.specs.Whole.{wholeOf};
+ghost use Rattle.macroblock16.specs.Code.{Candidate};
 ghost use Rattle.macroblock.specs.Code.{recordFrom, codedStep};
 ghost use Rattle.macroblock.specs.Content.{kindBy, contentTests};
 ghost use Rattle.macroblock.specs.Rebuild.{rebuiltStep};
 ghost use Rattle.macroblock.specs.Winner.{taken, winning};
+use choice::inner::Standing;
 use picture::Layout;
 use quantizer::Quantizer;
 use refusal::Answer;
@@ -72,8 +76,31 @@ pub(crate) fn winner<'a>(
     }
 }
 
+// The candidate of 16x16 for a macroblock whose sixteen others cost so much together. Where they cost nothing it cannot cost less, and its work is
+// left out.
+fn code_below(
+    layout: Layout,
+    m: usize,
+    quantizer: Quantizer,
+    plane: &[u8],
+    rebuilt: &[u8],
+    apart: u64,
+    levels: &mut [i32],
+    prediction: &mut [u8],
+) -> Standing
+    requires { ⌜ (Among layout m 0) × (quantizer .qp ≤ highest) × (length (now plane) ≡ planeLength 16 layout) × (length (now rebuilt) ≡ planeLength 16 layout) ⌝ }
+    requires { ⌜ (length (now levels) ≡ 256) × (length (now prediction) ≡ 256) ⌝ }
+    ensures { λ r. ⌜ (0 < apart → Candidate layout m (quantizer .qp) (now (plane .entry)) (now (rebuilt .entry)) r (now (levels .exit)) (now (prediction .exit))) ⌝ }
+    ensures { λ r. ⌜ (apart ≡ 0 → (r ≡ standing nothing) × (now (levels .exit) ≡ now (levels .entry)) × (now (prediction .exit) ≡ now (prediction .entry))) ⌝ }
+{
+    if apart == 0 {
+        return choice::inner::unsettled();
+    }
+    macroblock16::inner::code_candidate16(layout, m, quantizer, plane, rebuilt, levels, prediction)
+}
+
 // Macroblock m into a record at the front of what is lent; answers how many bytes that were. Both candidates are coded into an area of
-// levels each: 16x16 first, which only reads the rebuilt plane, then 4x4, whose samples stay there unless 16x16 wins.
+// levels each: 4x4 first, whose samples stay in the rebuilt plane unless 16x16 wins, and then 16x16, which looks at none of them.
 pub fn code_macroblock(
     layout: Layout,
     m: usize,
@@ -91,15 +118,6 @@ pub fn code_macroblock(
     let mut four = [0i32; 256];
     let mut sixteen = [0i32; 256];
     let mut prediction = [0u8; 256];
-    let whole = macroblock16::inner::code_candidate16(
-        layout,
-        m,
-        quantizer,
-        plane,
-        rebuilt,
-        &mut sixteen,
-        &mut prediction,
-    );
     let fours = macroblock4::inner::code_candidate4(
         layout,
         m,
@@ -107,6 +125,16 @@ pub fn code_macroblock(
         plane,
         &mut four,
         rebuilt,
+    );
+    let whole = code_below(
+        layout,
+        m,
+        quantizer,
+        plane,
+        rebuilt,
+        fours.sad,
+        &mut sixteen,
+        &mut prediction,
     );
     let together = whole.cost as u64;
     let levels = winner(&four, &sixteen, fours.sad, together);

@@ -1,6 +1,7 @@
 -- What the tests of a record's content come to, and what a fine content gives.
 --     levels-small               levels read from a file have 16 bits
 --     range-clean, range-found   a block's range, by the scan of its numbers
+--     zero-range, zero-samples   levels that are all 0 are in range, and leave the prediction as it is
 --     quantizer-high, mode-far, range-far, content-fine     the four verdicts
 --     Fine, fine                 what is known of a record whose content is fine
 -- Assumes nothing.
@@ -10,10 +11,13 @@ use mathlib.Core.List.{List}
 use Prim.Native.Nat.{ℕ, _+_, _*_, _<_, _≤_}
 use native.Mathlib.Omega.{arith}
 use borrow.Author.Tests.{eq-eqb, ne-eqb, eqb-true, not-false}
-use lib.IntN.{pos, _*ℤ_}
+use lib.Dec.{eqb}
+use lib.IntN.{ℤ, pos, _*ℤ_}
 use lib.ListN.{length, getD}
+use Rattle.lists.specs.Bytes.{Bytes}
 use Rattle.lists.specs.Chain.{pass, stop, chain}
 use Rattle.lists.specs.First.{first}
+use Rattle.lists.specs.Tab.{tab}
 use Rattle.lists.proofs.Chain.{chain-exactly-if}
 use Rattle.lists.proofs.First.{first-le, first-before}
 use Rattle.lists.proofs.Tab.{length-tab}
@@ -23,9 +27,11 @@ use Rattle.whole.proofs.Bound.{sixteen-bits}
 use Rattle.whole.proofs.Lists.{each-tab}
 use Rattle.residual.specs.Entry.{firstWide}
 use Rattle.residual.specs.Order.{inZigzag, inPlaces}
+use Rattle.residual.specs.Rebuild.{rebuiltSamples}
 use Rattle.residual.specs.Rescale.{scaledBy, vAt, rescaled}
 use Rattle.residual.proofs.Entry.{range-each}
 use Rattle.residual.proofs.Scan.{wideAt, scan-clean, scan-found}
+use Rattle.residual.proofs.Zeros.{zeros, places-zeros, rescaled-zeros, zeros-fit, samples-zeros}
 use Rattle.quantizer.specs.Range.{highest, periodOf}
 use Rattle.quantizer.proofs.Range.{number-passes, number-fails, number-legal}
 use Rattle.intra4.specs.Rules.{permitted}
@@ -57,6 +63,20 @@ module _ (part : List ℕ) (b : ℕ) where
   pub numbers-fit : rangeHolds part b ≡ true → Each 32768 (rescaledIn part b)
   unfolding rangeHolds
   numbers-fit e = range-each (rescaledIn part b) length-rescaled (omega (arith, eqb-true (firstWide (inZigzag (rescaledIn part b))) 16 e))
+
+  -- ---- where all levels are 0
+
+  module _ (e : levelsIn b part ≡ tab 16 (λ k. pos 0)) where
+    zero-numbers : rescaledIn part b ≡ zeros
+    unfolding rescaledIn
+    zero-numbers = ap (λ (l : List ℤ). rescaled (qpIn part) (inPlaces l)) e ∙ ap (rescaled (qpIn part)) places-zeros ∙ rescaled-zeros (qpIn part)
+
+    pub zero-range : rangeHolds part b ≡ true
+    unfolding rangeHolds
+    zero-range = ap (λ (d : List ℤ). eqb (firstWide (inZigzag d)) 16) zero-numbers ∙ zeros-fit
+
+    pub zero-samples : (prediction : List ℕ) → length prediction ≡ 16 → Bytes prediction → prediction ≡ rebuiltSamples prediction (rescaledIn part b)
+    zero-samples prediction long bytes = sym (ap (rebuiltSamples prediction) zero-numbers ∙ samples-zeros prediction long bytes)
 
 -- a mode that holds is permitted, of the flags and the number that the code has read
 pub holds-by : (l : Layout) (m : ℕ) (part : List ℕ) (b : ℕ) {flags mode : ℕ} → flags ≡ flagsOf 4 l m b → mode ≡ modeIn b part → modeHolds l m part b ≡ true

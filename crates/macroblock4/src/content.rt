@@ -57,6 +57,9 @@ pub(crate) fn first_range(quantizer: Quantizer, part: &[u8]) -> usize
 {
     let mut place: usize = 16;
     'blocks: for b in 0usize..16 {
+        if record::inner::all_zero(part, b) {
+            continue;
+        }
         let numbers = rescaled_in_zigzag(quantizer, part, b);
         for k in 0usize..16 {
             if !whole::inner::inside(numbers[k], -32768, 32767) {

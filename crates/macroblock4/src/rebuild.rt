@@ -15,7 +15,8 @@ use crate::content;
 use picture::Layout;
 use quantizer::Quantizer;
 
-// The sixteen predicted samples of block b of macroblock m, and then its own, among those of the macroblock: the plane is only read.
+// The sixteen predicted samples of block b of macroblock m, and then its own, among those of the macroblock: the plane is only read. Where all
+// levels are 0 the predicted samples are its own.
 pub(crate) fn rebuild_turn(
     layout: Layout,
     m: usize,
@@ -35,8 +36,11 @@ pub(crate) fn rebuild_turn(
     let mode = record::inner::mode(part, b);
     let mut prediction = [0u8; 16];
     intra4::inner::fill(&neighbours, flags, mode, &mut prediction);
-    let numbers = content::rescaled(quantizer, part, b);
-    let samples = residual::inner::samples(prediction, numbers);
+    let samples = if record::inner::all_zero(part, b) {
+        prediction
+    } else {
+        residual::inner::samples(prediction, content::rescaled(quantizer, part, b))
+    };
     let x = 4 * picture::inner::column_inside(b);
     let y = 4 * picture::inner::row_inside(b);
     picture::inner::store_at(own, 16, x, y, samples);

@@ -6,6 +6,7 @@ use lib.IntN.{ℤ}
 use denote.Ref.{now}
 use Rattle.unique.specs.Unique.{Unique}
 use Rattle.refusal.proofs.Same.{same-answer}
+use Rattle.record.proofs.Zeros.{same-flag}
 use Rattle.record.proofs.inner.fours_length.Kinds as fours-length
 use Rattle.record.proofs.inner.fours_length.Reads as fours-length-reads
 use Rattle.record.proofs.inner.chroma_length.Kinds as chroma-length
@@ -24,6 +25,8 @@ use Rattle.record.proofs.inner.whole_mode.Kinds as whole-mode
 use Rattle.record.proofs.inner.whole_mode.Reads as whole-mode-reads
 use Rattle.record.proofs.inner.mode.Kinds as mode
 use Rattle.record.proofs.inner.mode.Reads as mode-reads
+use Rattle.record.proofs.inner.all_zero.Kinds as all-zero
+use Rattle.record.proofs.inner.all_zero.Reads as all-zero-reads
 use Rattle.record.proofs.inner.block_levels.Kinds as block-levels
 use Rattle.record.proofs.inner.block_levels.Reads as block-levels-reads
 use Rattle.record.proofs.inner.whole_levels.Kinds as whole-levels
@@ -72,6 +75,9 @@ mode-unique κs a x y e f p q = (p ∙ sym q, refl)
 
 pub block-levels-unique : Unique 1 block-levels.ps block-levels.r block-levels-reads.Learnt (Unit {0}) (λ κs e. tt)
 block-levels-unique κs a x y e f p q = (p ∙ sym q, refl)
+
+pub all-zero-unique : Unique 1 all-zero.ps all-zero.r all-zero-reads.Learnt (Unit {0}) (λ κs e. tt)
+all-zero-unique κs a x y e f p q = (same-flag x y p q, refl)
 
 pub whole-levels-unique : Unique 2 whole-levels.ps whole-levels.r whole-levels-reads.Learnt (List ℤ) (λ κs e. now (e .1 .0))
 whole-levels-unique κs a x y e f p q = (refl, p ∙ sym q)

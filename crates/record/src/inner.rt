@@ -1,5 +1,7 @@
 // Macroblock records in lent parts, the form of a record, and the walk over records. Lengths are the caller's.
+ghost use mathlib.Core.Bool.{true};
 ghost use mathlib.Core.List.{_∷_};
+ghost use mathlib.Core.Logic.{_↔_};
 ghost use mathlib.Core.Path.{_≡_};
 ghost use Prim.Native.Nat.{ℕ, _+_, _-_, _*_, _<_, _≤_};
 ghost use lib.IntN.{pos};
@@ -7,6 +9,7 @@ ghost use lib.ListN.{length, drop, getD};
 ghost use mir.Syntax.{w8, w16};
 ghost use mir.Val.{SFits};
 ghost use Rattle.lists.specs.Parts.{over};
+ghost use Rattle.lists.specs.Tab.{tab};
 ghost use Rattle.refusal.specs.Number.{said};
 ghost use Rattle.record.specs.Faults.{formOf, walkOf, walkSaid};
 ghost use Rattle.record.specs.Kinds.{lengthOf, inFours, inWhole, inChroma, kindOf, recordLength, asExpected, expectedIn};
@@ -204,6 +207,23 @@ pub fn block_levels(part: &[u8], block: usize) -> [i32; 16]
         levels[k] = level(part, block, k);
     }
     levels
+}
+
+// Whether the sixteen levels of a block are all 0, by the sum of their bytes. On busy ground the low byte of the first level says at once that
+// they are not.
+pub fn all_zero(part: &[u8], block: usize) -> bool
+    requires { ⌜ (length (now part) ≡ lengthOf inFours) × (block < 16) ⌝ }
+    ensures { λ r. ⌜ (r ≡ true) ↔ (levelsIn block (now (part .entry)) ≡ tab 16 (λ k. pos 0)) ⌝ }
+{
+    let at = FOURS.front + 32 * block;
+    if part[at + 1] != 0 {
+        return false;
+    }
+    let mut sum: u16 = 0;
+    for k in 0usize..32 {
+        sum += part[at + k] as u16;
+    }
+    sum == 0
 }
 
 // All levels of a record of a kind.

@@ -37,6 +37,10 @@ use Rattle.residual.proofs.inner.in_places.Kinds as in-places
 use Rattle.residual.proofs.inner.in_places.Reads as in-places-reads
 use Rattle.residual.proofs.inner.rescaled.Kinds as rescaled
 use Rattle.residual.proofs.inner.rescaled.Reads as rescaled-reads
+use Rattle.residual.proofs.inner.all_zero.Kinds as all-zero
+use Rattle.residual.proofs.inner.all_zero.Reads as all-zero-reads
+use Rattle.residual.proofs.inner.rebuilt.Kinds as rebuilt
+use Rattle.residual.proofs.inner.rebuilt.Reads as rebuilt-reads
 use Rattle.residual.proofs.inner.samples.Kinds as samples
 use Rattle.residual.proofs.inner.samples.Reads as samples-reads
 
@@ -75,6 +79,12 @@ in-places-unique κs a x y e f p q = (p ∙ sym q, refl)
 
 pub rescaled-unique : Unique 0 rescaled.ps rescaled.r rescaled-reads.Learnt (Unit {0}) (λ κs e. tt)
 rescaled-unique κs a x y e f p q = (p ∙ sym q, refl)
+
+pub all-zero-unique : Unique 0 all-zero.ps all-zero.r all-zero-reads.Learnt (Unit {0}) (λ κs e. tt)
+all-zero-unique κs a x y e f p q = (p ∙ sym q, refl)
+
+pub rebuilt-unique : Unique 0 rebuilt.ps rebuilt.r rebuilt-reads.Learnt (Unit {0}) (λ κs e. tt)
+rebuilt-unique κs a x y e f p q = (p ∙ sym q, refl)
 
 pub samples-unique : Unique 0 samples.ps samples.r samples-reads.Learnt (Unit {0}) (λ κs e. tt)
 samples-unique κs a x y e f p q = (p ∙ sym q, refl)

@@ -1,11 +1,14 @@
 // What the entry points test first; levels and rescaled numbers of a block by value, for callers that have tested their numbers.
 ghost use mathlib.Core.Path.{_≡_};
 ghost use Prim.Native.Nat.{ℕ, _-_, _*_, _/_, _^_, _<_, _≤_};
+ghost use lib.Dec.{eqb};
 ghost use lib.IntN.{ℤ, pos, _+ℤ_, _*ℤ_};
 ghost use lib.ListN.{length, getD};
 ghost use lib.Signed.{shrZ};
+ghost use Rattle.lists.specs.Bytes.{Bytes};
 ghost use Rattle.lists.specs.Tab.{tab};
 ghost use Rattle.whole.specs.Clip.{clip};
+ghost use Rattle.whole.specs.Range.{firstOutside};
 ghost use Rattle.whole.specs.Bounds.{Within, Each};
 ghost use Rattle.residual.specs.Entry.{Accepts, lentTests, residualTests};
 ghost use Rattle.residual.specs.Quantize.{levelBy, fOf};
@@ -236,6 +239,13 @@ pub(crate) fn rebuild_over(samples: &mut [u8], numbers: [i32; 16])
     add(samples, transform::inner::inverse_block(numbers));
 }
 
+// Whether sixteen numbers are all 0.
+pub fn all_zero(numbers: [i32; 16]) -> bool
+    ensures { λ r. ⌜ r ≡ eqb (firstOutside (pos 0) (pos 0) numbers) 16 ⌝ }
+{
+    whole::inner::first_outside(&numbers, 0, 0) == 16
+}
+
 // The samples of a prediction and of sixteen rescaled numbers.
 pub fn samples(prediction: [u8; 16], numbers: [i32; 16]) -> [u8; 16]
     requires { ⌜ Each 32768 numbers ⌝ }
@@ -244,4 +254,16 @@ pub fn samples(prediction: [u8; 16], numbers: [i32; 16]) -> [u8; 16]
     let mut out = prediction;
     rebuild_over(&mut out, numbers);
     out
+}
+
+// Those of a prediction and of sixteen levels in raster order: of levels that are all 0 the prediction itself, without rescaling and inverse.
+pub fn rebuilt(quantizer: Quantizer, prediction: [u8; 16], levels: [i32; 16]) -> [u8; 16]
+    requires { ⌜ (quantizer .qp ≤ highest) × (Bytes prediction) × (Each 32768 levels) × (Each 32768 (rescaled (quantizer .qp) levels)) ⌝ }
+    ensures { λ r. ⌜ r ≡ rebuiltSamples prediction (rescaled (quantizer .qp) levels) ⌝ }
+{
+    if all_zero(levels) {
+        prediction
+    } else {
+        samples(prediction, rescaled(quantizer, levels))
+    }
 }

@@ -5,8 +5,9 @@
 --     length-values                         a DC value for each block
 --     values-fit, ac-numbers-fit             what the two tests of RANGE say of the numbers
 --     whole-bytes                           what is rebuilt: bytes
+--     nothing-rebuilt                       a block whose DC value and levels are all 0 is its prediction
 -- Assumes nothing.
-use mathlib.Core.Path.{_≡_, sym, ap, _∙_}
+use mathlib.Core.Path.{_≡_, refl, sym, ap, _∙_}
 use mathlib.Core.Bool.{true, not, _||_}
 use mathlib.Core.List.{List, [], _∷_}
 use Prim.Native.Nat.{ℕ, zero, suc, _+_, _*_, _-_, _<_, zero-le}
@@ -18,18 +19,21 @@ use lib.IntN.{ℤ, pos}
 use lib.ListN.{length, getD, set, take, drop, length-set}
 use lib.Seq.{getD-take, getD-drop}
 use Rattle.lists.specs.Bytes.{Bytes}
+use Rattle.lists.specs.Tab.{tab}
 use Rattle.lists.proofs.Every.{every-at, either}
 use Rattle.lists.proofs.First.{first-before}
 use Rattle.lists.proofs.Tab.{length-tab}
 use Rattle.whole.specs.Bounds.{Within, Each}
+use Rattle.whole.specs.Range.{firstOutside}
 use Rattle.whole.proofs.Lists.{each-take, each-drop}
 use Rattle.quantizer.specs.Tables.{stepOf}
 use Rattle.residual.specs.Entry.{firstWide}
 use Rattle.residual.specs.Order.{inZigzag, inPlaces}
-use Rattle.residual.specs.Rebuild.{rescaledOf}
+use Rattle.residual.specs.Rebuild.{rebuiltSamples, rescaledOf, rescaledWithDc}
 use Rattle.residual.specs.Rescale.{rescaled}
 use Rattle.residual.proofs.Entry.{wide-each, range-each}
 use Rattle.residual.proofs.Order.{places-each}
+use Rattle.residual.proofs.Zeros.{zeros, all-zero-is, rescaled-zeros, samples-zeros}
 use Rattle.dc.proofs.Values.{dc-values-length}
 use Rattle.block.proofs.Laws.{bytes-samples}
 use Rattle.residual_whole.specs.Area.{Sided, blocksOf}
@@ -86,3 +90,16 @@ module _ (s : ℕ) (side : Sided s) (qp : ℕ) (levels : List ℤ) where
 pub whole-bytes : (s qp : ℕ) (prediction : List ℕ) (levels : List ℤ) → Bytes (wholeSamples s qp prediction levels)
 unfolding wholeSamples blockSamples
 whole-bytes s qp prediction levels = blocks-bytes s (blockSamples s qp prediction levels) (λ b. bytes-samples _ _)
+
+-- ---- nothing but zeros
+
+first-zero : set zeros 0 (pos 0) ≡ zeros
+unfolding tab
+first-zero = refl
+
+pub nothing-rebuilt : (qp : ℕ) (dc : ℤ) (ac : List ℤ) {l : List ℤ} (own : List ℕ) → l ≡ inPlaces (pos 0 ∷ ac) → length l ≡ 16
+    → eqb (firstOutside (pos 0) (pos 0) l) 16 ≡ true → dc ≡ pos 0 → length own ≡ 16 → Bytes own → own ≡ rebuiltSamples own (rescaledWithDc qp dc ac)
+nothing-rebuilt qp dc ac {l} own is-l long none nothing sixteen bytes =
+    let places : inPlaces (pos 0 ∷ ac) ≡ zeros = sym is-l ∙ all-zero-is l long none in
+    let numbers = (λ i. set (rescaled qp (places i)) 0 (nothing i)) ∙ ap (λ (d : List ℤ). set d 0 (pos 0)) (rescaled-zeros qp) ∙ first-zero in
+    sym (ap (rebuiltSamples own) numbers ∙ samples-zeros own sixteen bytes)

@@ -59,7 +59,7 @@ pub(crate) fn ac_rescaled(s: usize, quantizer: Quantizer, levels: &[i32], b: usi
     residual::inner::in_zigzag(numbers)
 }
 
-// The samples of block b beside its DC value.
+// The samples of block b beside its DC value: its predicted ones where that and all its levels are 0.
 fn block_samples(
     s: usize,
     quantizer: Quantizer,
@@ -72,9 +72,16 @@ fn block_samples(
     requires { ⌜ (Within 32768 dc) × (Each 32768 (acNumbers s (quantizer .qp) (now levels) b)) ⌝ }
     ensures { λ r. ⌜ r ≡ rebuiltSamples (partIn s b (now (prediction .entry))) (rescaledWithDc (quantizer .qp) dc (acIn s (now (levels .entry)) b)) ⌝ }
 {
-    let mut numbers = residual::inner::rescaled(quantizer, ac(s, levels, b));
+    let own = area::part(prediction, s, b);
+    let placed = ac(s, levels, b);
+    if dc == 0 {
+        if residual::inner::all_zero(placed) {
+            return own;
+        }
+    }
+    let mut numbers = residual::inner::rescaled(quantizer, placed);
     numbers[0] = dc;
-    residual::inner::samples(area::part(prediction, s, b), numbers)
+    residual::inner::samples(own, numbers)
 }
 
 // The samples of all blocks beside their DC values.

@@ -1,35 +1,55 @@
--- `block::inner::coded` meets its contract: the choice, its residual's levels, and the samples that these rebuild. Assumes nothing.
+-- `block::inner::coded` meets its contract: the choice, its residual's levels, and the samples that these rebuild; the prediction itself where it
+-- lacks nothing. Assumes nothing.
+use native.Mathlib.Omega.{arith}
 use borrow.Author.Needs.{needs}
-use mathlib.Core.Path.{sym, ap, subst, _∙_}
+use mathlib.Core.Path.{_≡_, refl, sym, ap, subst, _∙_}
+use lib.ListN.{length}
+use Rattle.lists.specs.Bytes.{Bytes}
+use Rattle.lists.specs.Tab.{tab}
+use Rattle.lists.proofs.Bytes.{bytes-known}
 use Rattle.whole.specs.Bounds.{Each}
+use Rattle.intra4.proofs.Bytes.{predicted-bytes}
 use Rattle.residual.specs.Rescale.{rescaled}
-use Rattle.block.proofs.Carries.{levels-small, coded-small, numbers-small, carried}
+use Rattle.block.proofs.Carries.{levels-small, coded-small, numbers-small, carried, nothing-carried}
 use Rattle.block.proofs.inner.coded.Statement.{statement}
 use Rattle.block.proofs.inner.coded.Tie as tie
 
-rescaled-requires : tie.Need-rescaled-requires
-rescaled-requires c κs =
-    let s = c .before .before .before .before .before .before in
-    let q = s .pre .0 in
-    (q, subst (Each 32768) (sym (c .quantized .ensures)) (levels-small (s .args .quantizer .qp) (c .before .lacking .result) q (c .before .lacking .ensures .1)))
+abbrev start : tie.After-chosen → tie.Start
+start c = c .before .before .before
 
-samples-requires : tie.Need-samples-requires
-samples-requires c κs =
-    let r = c .before in
-    let l = r .before in
-    let s = l .before .before .before .before .before .before in
+-- the prediction is bytes, since the neighbours are
+shown-bytes : (c : tie.After-chosen) → Bytes (c .chosen .result .prediction)
+shown-bytes c =
+    let s = start c in
+    subst Bytes (sym (c .chosen .ensures .prediction)) (predicted-bytes (s .args .neighbours .now) (s .args .flags) (bytes-known (s .args .neighbours .now) (c .before .before .shared-slice-known .given)) (c .chosen .result .mode))
+
+rebuilt-requires : tie.Need-rebuilt-requires
+rebuilt-requires c κs =
+    let l = c .before in
+    let h = l .before .before .before .before .before in
+    let s = start h in
+    let q = s .pre .0 in
     let qp = s .args .quantizer .qp in
-    subst (Each 32768) (sym (r .rescaled .ensures ∙ ap (rescaled qp) (l .quantized .ensures))) (numbers-small qp (l .before .lacking .result) (s .pre .0) (l .before .lacking .ensures .1))
+    let x = l .before .lacking .result in
+    let small = l .before .lacking .ensures .1 in
+    (q, shown-bytes h, subst (Each 32768) (sym (l .quantized .ensures)) (levels-small qp x q small), subst (Each 32768) (sym (ap (rescaled qp) (l .quantized .ensures))) (numbers-small qp x q small))
 
 returns : tie.Need-returns
 returns c =
     let z = c .before in
-    let r = z .before in
-    let l = r .before in
-    let h = l .before .before .before in
-    let s = h .before .before .before in
-    carried _ _ _ (h .chosen .result) (h .chosen .ensures) (l .before .lacking .ensures .0) (l .quantized .ensures) (r .rescaled .ensures) (z .in-zigzag .ensures) (c .samples .ensures)
+    let l = z .before in
+    let h = l .before .before .before .before .before in
+    let s = start h in
+    carried _ _ _ (h .chosen .result) (h .chosen .ensures) (l .before .lacking .ensures .0) (l .quantized .ensures) (z .in-zigzag .ensures) (c .rebuilt .ensures)
     (coded-small (s .args .quantizer .qp) (l .before .lacking .result) (s .pre .0) (l .before .lacking .ensures .1))
+
+returns-2 : tie.Need-returns-2
+unfolding tab
+returns-2 c =
+    let h = c .before .before .before in
+    let s = start h in
+    let sixteen : length (h .chosen .result .prediction) ≡ 16 = search needs in
+    nothing-carried (s .args .quantizer .qp) (s .pre .0) _ (s .args .samples .now) (h .chosen .result) (h .chosen .ensures) (s .pre .2) sixteen (shown-bytes h) (omega (arith, c .if1 .left)) refl
 
 pub coded-spec : {M : Type 1} → statement M
 coded-spec =
@@ -38,7 +58,7 @@ coded-spec =
     (λ c κs. search needs)
     (λ c κs. search needs)
     (λ c κs. search needs)
-    rescaled-requires
     (λ c κs. search needs)
-    samples-requires
-    returns)
+    rebuilt-requires
+    returns
+    returns-2)

@@ -12,7 +12,7 @@ use Rattle.whole.specs.Range.{inside}
 use Rattle.residual.specs.Order.{inZigzag}
 use Rattle.macroblock4.specs.Content.{rescaledIn, rangeHolds, firstRange}
 use Rattle.residual.proofs.Scan.{wideAt}
-use Rattle.macroblock4.proofs.Contents.{range-found, range-clean}
+use Rattle.macroblock4.proofs.Contents.{range-found, range-clean, zero-range}
 use borrow.Author.Needs.{needs}
 use Rattle.macroblock4.proofs.content.first_range.Statement.{statement}
 use Rattle.macroblock4.proofs.content.first_range.Tie as tie
@@ -36,11 +36,27 @@ abbrev μ-blocks2 : tie.MeasureT-blocks2
 blocks2-holds : tie.Need-blocks2-holds Inv-loop μ-loop Inv-blocks2 μ-blocks2
 blocks2-holds c = (search needs, searching-none _ _)
 
+all-zero-requires : tie.Need-all-zero-requires Inv-loop μ-loop Inv-blocks2 μ-blocks2
+all-zero-requires c κs = search needs
+
+add-b : tie.Need-add-b Inv-loop μ-loop Inv-blocks2 μ-blocks2
+add-b c = search needs
+
+blocks2-less : tie.Need-blocks2-less Inv-loop μ-loop Inv-blocks2 μ-blocks2
+blocks2-less c = search needs
+
+-- a block whose levels are all 0 is passed over
+blocks2-again : tie.Need-blocks2-again Inv-loop μ-loop Inv-blocks2 μ-blocks2
+blocks2-again c =
+    let I = c .before .before in
+    let B = I .before in
+    (B .blocks2 .inv .0, searching-more _ (B .blocks2 .inv .1) (I .blocks2-test .taken) (ap not (zero-range _ _ (c .before .all-zero .ensures .0 (c .if1 .taken)))))
+
 rescaled-in-zigzag-requires : tie.Need-rescaled-in-zigzag-requires Inv-loop μ-loop Inv-blocks2 μ-blocks2
 rescaled-in-zigzag-requires c κs = search needs
 
 loop-holds : tie.Need-loop-holds Inv-loop μ-loop Inv-blocks2 μ-blocks2
-loop-holds c = (c .before .before .blocks2 .inv .0, c .rescaled-in-zigzag .ensures, searching-none _ _)
+loop-holds c = (c .before .before .before .before .blocks2 .inv .0, c .rescaled-in-zigzag .ensures, searching-none _ _)
 
 mul-inside : tie.Need-mul-inside Inv-loop μ-loop Inv-blocks2 μ-blocks2
 mul-inside c = search needs
@@ -60,7 +76,7 @@ loop-less c = search needs
 -- what was tested is the number of this block and place
 tested : (c : tie.After-inside Inv-loop μ-loop Inv-blocks2 μ-blocks2)
     → let L = c .before .before .before in
-    wideAt (inZigzag (rescaledIn (L .before .before .before .before .before .args .part .now) (L .before .before .before .blocks2 .b))) (L .loop .k) ≡ not (c .inside .result)
+    wideAt (inZigzag (rescaledIn (L .before .before .before .before .before .before .before .args .part .now) (L .before .before .before .before .before .blocks2 .b))) (L .loop .k) ≡ not (c .inside .result)
 tested c =
     let L = c .before .before .before in
     ap not (sym (c .inside .ensures
@@ -70,19 +86,19 @@ tested c =
 loop-again : tie.Need-loop-again Inv-loop μ-loop Inv-blocks2 μ-blocks2
 loop-again c =
     let L = c .before .before .before .before in
-    (L .loop .inv .0, L .loop .inv .1, searching-more _ (L .loop .inv .2) (c .before .before .before .loop-test .taken) (tested (c .before) ∙ c .if1 .left))
+    (L .loop .inv .0, L .loop .inv .1, searching-more _ (L .loop .inv .2) (c .before .before .before .loop-test .taken) (tested (c .before) ∙ c .if2 .left))
 
-add-b : tie.Need-add-b Inv-loop μ-loop Inv-blocks2 μ-blocks2
-add-b c = search needs
+add-b-2 : tie.Need-add-b-2 Inv-loop μ-loop Inv-blocks2 μ-blocks2
+add-b-2 c = search needs
 
-blocks2-less : tie.Need-blocks2-less Inv-loop μ-loop Inv-blocks2 μ-blocks2
-blocks2-less c = search needs
+blocks2-less-2 : tie.Need-blocks2-less-2 Inv-loop μ-loop Inv-blocks2 μ-blocks2
+blocks2-less-2 c = search needs
 
-blocks2-again : tie.Need-blocks2-again Inv-loop μ-loop Inv-blocks2 μ-blocks2
-blocks2-again c =
+blocks2-again-2 : tie.Need-blocks2-again-2 Inv-loop μ-loop Inv-blocks2 μ-blocks2
+blocks2-again-2 c =
     let L = c .before in
-    let B = L .before .before .before in
-    (L .loop .inv .0, searching-more _ (B .blocks2 .inv .1) (L .before .before .blocks2-test .taken) (ap not (range-clean _ _ (searching-done _ (L .loop .inv .2) (c .loop-test .left)))))
+    let I = L .before .before .before .before in
+    (L .loop .inv .0, searching-more _ (I .before .blocks2 .inv .1) (I .blocks2-test .taken) (ap not (range-clean _ _ (searching-done _ (L .loop .inv .2) (c .loop-test .left)))))
 
 returns : tie.Need-returns Inv-loop μ-loop Inv-blocks2 μ-blocks2
 unfolding firstRange
@@ -93,8 +109,8 @@ unfolding firstRange
 returns-2 c =
     let T = c .before .before .before in
     let L = T .before in
-    let I = L .before .before in
-    let found = searching-here _ (L .loop .inv .2) (T .loop-test .taken) (tested (c .before) ∙ c .if1 .taken) in
+    let I = L .before .before .before .before in
+    let found = searching-here _ (L .loop .inv .2) (T .loop-test .taken) (tested (c .before) ∙ c .if2 .taken) in
     sym (searching-here _ (I .before .blocks2 .inv .1) (I .blocks2-test .taken) (ap not (range-found _ _ (L .loop .k) (T .loop-test .taken) found)))
 
 pub first-range-spec : {M : Type 1} → statement M
@@ -106,6 +122,10 @@ first-range-spec =
     Inv-blocks2
     μ-blocks2
     blocks2-holds
+    all-zero-requires
+    add-b
+    blocks2-less
+    blocks2-again
     rescaled-in-zigzag-requires
     loop-holds
     mul-inside
@@ -114,8 +134,8 @@ first-range-spec =
     add-k
     loop-less
     loop-again
-    add-b
-    blocks2-less
-    blocks2-again
+    add-b-2
+    blocks2-less-2
+    blocks2-again-2
     returns
     returns-2)
