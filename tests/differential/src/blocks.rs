@@ -18,13 +18,9 @@ pub fn predict(random: &mut Random, case: usize) -> Vec<Argument> {
     ]
 }
 
-pub fn choose(random: &mut Random, _: usize) -> Vec<Argument> {
-    vec![
-        samples(random, 13),
-        flags(random),
-        samples(random, 16),
-        held_bytes(random, 16),
-    ]
+pub fn choose(random: &mut Random, case: usize) -> Vec<Argument> {
+    let [flags, neighbours, samples] = block(random, case);
+    vec![neighbours, flags, samples, held_bytes(random, 16)]
 }
 
 pub fn forward(random: &mut Random, _: usize) -> Vec<Argument> {
@@ -93,15 +89,44 @@ pub fn chroma_quantizer(_: &mut Random, case: usize) -> Vec<Argument> {
     vec![Number((case % 256) as i64), Number(offset)]
 }
 
-pub fn code_block(random: &mut Random, _: usize) -> Vec<Argument> {
+pub fn code_block(random: &mut Random, case: usize) -> Vec<Argument> {
+    let [flags, neighbours, samples] = block(random, case);
     vec![
         qp(random),
-        flags(random),
-        samples(random, 13),
-        samples(random, 16),
+        flags,
+        neighbours,
+        samples,
         held_numbers(random, 16),
         held_bytes(random, 16),
     ]
+}
+
+/// Flags, neighbours and samples: in the first cases samples that fit, or nearly.
+fn block(random: &mut Random, case: usize) -> [Argument; 3] {
+    match case {
+        0..FITTING => fitting(random, case),
+        _ => [flags(random), samples(random, 13), samples(random, 16)],
+    }
+}
+
+/// All flags, with samples that vertical prediction is, that horizontal is and that both are; with one sample changed at each place, or none.
+const FITTING: usize = 16 * 3 * 17;
+
+fn fitting(random: &mut Random, case: usize) -> [Argument; 3] {
+    let (flags, kind, changed) = (case % 16, case / 16 % 3, case / 48);
+    let same = random.byte();
+    let neighbours: Vec<u8> = (0..13)
+        .map(|_| if kind == 2 { same } else { random.byte() })
+        .collect();
+    let sample = |place: usize| match kind {
+        0 => neighbours[1 + place % 4],
+        _ => neighbours[9 + place / 4],
+    };
+    let mut samples: Vec<u8> = (0..16).map(sample).collect();
+    if let Some(sample) = samples.get_mut(changed) {
+        *sample ^= 1;
+    }
+    [Number(flags as i64), Bytes(neighbours), Bytes(samples)]
 }
 
 fn qp(random: &mut Random) -> Argument {
