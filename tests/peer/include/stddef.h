@@ -1,2 +1,3 @@
 /* See stdint.h. */
 typedef __SIZE_TYPE__ size_t;
+#define NULL ((void *)0)
