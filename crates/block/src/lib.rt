@@ -1,4 +1,7 @@
 // One 4x4 block: a mode chosen, its residual coded as levels, and the samples that a decoder rebuilds from them.
+
+#![tactic(auto)]
+
 ghost use Rattle.block.specs.Entry.{Codes};
 
 use intra4::Chosen;

@@ -1,4 +1,7 @@
 // Reads one block from standard input and prints it coded (01, "Measured pieces"). All that it prints is `printing::printed`.
+
+#![tactic(auto)]
+
 fn main() {
     // room for one byte more than wanted, so that a longer input is seen
     let mut input = [0u8; 32];

@@ -1,4 +1,7 @@
 // How far a rebuilt sample can be off (document 02, request 07).
+
+#![tactic(auto)]
+
 ghost use Rattle.std.specs.Prelude.{◌≡◌, ◌+◌, ◌*◌, ◌/◌, ◌^◌, ◌≤◌};
 ghost use Rattle.quantizer.specs.Range.{remainder_of};
 ghost use Rattle.distance.specs.Distance.{spread_of};

@@ -1,4 +1,7 @@
 // The codec for C: each function calls the entry point of its name and sends back one word (`word`, include/fleecebutton.h).
+
+#![tactic(auto)]
+
 ghost use Rattle.fleecebutton.specs.Sends.{
   PredictSends,
   ChooseSends,

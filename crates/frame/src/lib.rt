@@ -1,4 +1,7 @@
 // A colour picture into its record file, and from it: a luma plane and two chroma planes (02, Req 05).
+
+#![tactic(auto)]
+
 ghost use Rattle.lists.specs.Chain.{chain};
 ghost use Rattle.picture.specs.Order.{Sound};
 ghost use Rattle.plane.specs.Decode.{decoded, luma_in};

@@ -1,4 +1,7 @@
 // The head of a file: the size of its picture, and the rows of a slice (01, "Plane and record file"; 02, request 02).
+
+#![tactic(auto)]
+
 ghost use Rattle.head.specs.Entry.{ReadsHead};
 
 use refusal::{Fault, Refusal};

@@ -1,4 +1,7 @@
 // Incoming inspection of a supplier's file beside the luma plane that their coder rebuilt (02, Req 11). Nothing is written.
+
+#![tactic(auto)]
+
 ghost use Rattle.std.specs.Prelude.{◌≡◌, [], ◌∷◌, length};
 ghost use Rattle.lists.specs.Chain.{chain, pass};
 ghost use Rattle.lists.specs.First.{first};

@@ -1,4 +1,7 @@
 // Samples round a 4x4 block, the nine modes of prediction, SAD and the choice of a mode (01, "Samples round a block").
+
+#![tactic(auto)]
+
 ghost use Rattle.intra4.specs.Entry.{Predicts, Chooses};
 
 use refusal::{Answer, Refusal};

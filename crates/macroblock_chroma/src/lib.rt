@@ -1,4 +1,7 @@
 // A macroblock's chroma: the content of its chroma record tested, its samples of Cb and Cr rebuilt, and both coded (02, Req 05).
+
+#![tactic(auto)]
+
 mod code;
 mod content;
 pub mod inner;

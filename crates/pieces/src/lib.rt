@@ -1,1 +1,3 @@
 // No function: the paper's measured pieces, as one table in specs/ and one theorem in proofs/.
+
+#![tactic(auto)]

@@ -1,4 +1,7 @@
 // A luma plane into its record file, and from it (01, "Plane and record file").
+
+#![tactic(auto)]
+
 ghost use Rattle.picture.specs.Order.{Sound};
 ghost use Rattle.plane.specs.Code.{CodesPlane};
 ghost use Rattle.plane.specs.Decode.{DecodesBody, Decodes};

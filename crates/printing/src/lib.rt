@@ -1,4 +1,7 @@
 // The text that `blockprint` prints, from the bytes that it reads.
+
+#![tactic(auto)]
+
 ghost use Rattle.std.specs.Prelude.{◌+◌, ◌<◌, ◌≤◌, ◌≡◌, [], ◌∷◌, ◌++◌, pos, length, get_or};
 ghost use Rattle.refusal.specs.Number.{number_of, place_of};
 ghost use Rattle.intra4.specs.Choice.{at};

@@ -1,5 +1,8 @@
 // The quantizer: its numbers, its split into period and remainder, its tables, and the chroma quantizer
 // (01, "Transform, quantizer, rescaling").
+
+#![tactic(auto)]
+
 ghost use Rattle.std.specs.Prelude.{◌≡◌, ◌+◌, ◌*◌, ◌<◌, ◌≤◌};
 ghost use Rattle.quantizer.specs.Chroma.{ChromaBuilds, folded_of};
 ghost use Rattle.quantizer.specs.Range.{Builds, period_of, remainder_of};

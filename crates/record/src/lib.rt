@@ -1,4 +1,7 @@
 // The records behind the head of a file: macroblock records, luma and chroma, the faults of their form, and the walk over them (01, "Plane and record file").
+
+#![tactic(auto)]
+
 use refusal::Fault;
 
 pub mod inner;

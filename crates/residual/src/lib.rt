@@ -1,4 +1,7 @@
 // From residual to levels and back (01, "Transform, quantizer, rescaling"; ITU-T H.264, 8.5).
+
+#![tactic(auto)]
+
 ghost use Rattle.std.specs.Prelude.{◌≡◌, ◌≤◌, length};
 ghost use Rattle.residual.specs.Entry.{Accepts, level_tests, Levels, Rebuilds, RebuildsWithDc, Finishes};
 

@@ -1,4 +1,7 @@
 // The quality sheet of a rebuilt plane (02, Req 09).
+
+#![tactic(auto)]
+
 ghost use Rattle.sheet.specs.Entry.{Sheets};
 
 use refusal::Refusal;

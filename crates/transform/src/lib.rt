@@ -1,5 +1,8 @@
 // The transforms: forward 4x4 with its entry point, and, for the crates above, the inverse 4x4 and the Hadamard transforms
 // (01, "Transform, quantizer, rescaling").
+
+#![tactic(auto)]
+
 ghost use Rattle.transform.specs.Entry.{Forwards};
 
 use refusal::{Answer, Refusal};

@@ -1,5 +1,8 @@
 // Asks the recorded requests of each function, and prints how many there were and how many were answered as recorded. `rt check` holds
 // what is printed to the file `stdout`, so that one other answer fails. tests/README.md has the layout of a recording.
+
+#![tactic(auto)]
+
 mod calls;
 mod recording;
 mod rooms;
