@@ -9,7 +9,7 @@ ghost use Rattle.block.specs.Entry.{Carries};
 use quantizer::Quantizer;
 
 // What is coded of a block: the chosen mode and its SAD, the levels in zigzag order, and the rebuilt samples.
-#[derive(Drop)]
+#[derive(Clone, Copy)]
 pub struct Block {
     pub mode: u8,
     pub sad: u32,

@@ -7,7 +7,7 @@ ghost use Rattle.choice.specs.Code.{standing, looked};
 use whole::inner::gap;
 
 // The best mode so far and its cost.
-#[derive(Drop)]
+#[derive(Clone, Copy)]
 pub struct Standing {
     pub mode: u8,
     pub cost: u32,

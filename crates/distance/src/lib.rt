@@ -11,7 +11,7 @@ use quantizer::{Built, Class, Quantizer};
 use refusal::Refusal;
 
 // The answer where a distance is asked for.
-#[derive(Drop)]
+#[derive(Clone, Copy)]
 pub enum Promised {
     Most(u16),
     Refused(Refusal),

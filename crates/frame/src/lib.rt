@@ -19,7 +19,7 @@ mod rebuild;
 mod tests;
 
 // The answer where a picture is decoded: whether its file is mono or colour.
-#[derive(Drop)]
+#[derive(Clone, Copy)]
 pub enum Decoded {
     Mono,
     Colour,

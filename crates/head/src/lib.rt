@@ -9,7 +9,7 @@ use refusal::{Fault, Refusal};
 pub mod inner;
 
 // The answer where a head is read: width and height in macroblocks, the rows of a slice, and the head's own length.
-#[derive(Drop)]
+#[derive(Clone, Copy)]
 pub enum Head {
     Legal(usize, usize, usize, usize),
     Refused(Refusal),

@@ -9,7 +9,7 @@ use crate::{fills, samples, search};
 use choice::inner::Standing;
 
 // The chosen mode, its SAD and its sixteen samples.
-#[derive(Drop)]
+#[derive(Clone, Copy)]
 pub struct Choice {
     pub mode: u8,
     pub sad: u32,

@@ -13,7 +13,7 @@ mod samples;
 mod search;
 
 // The answer where a mode is chosen: its number and its SAD.
-#[derive(Drop)]
+#[derive(Clone, Copy)]
 pub enum Chosen {
     Mode(u8, u32),
     Refused(Refusal),

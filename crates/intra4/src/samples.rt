@@ -5,7 +5,7 @@ ghost use Rattle.intra4.specs.Code.{top_row, left_row};
 use crate::inner::flag;
 
 // The corner and what stands above; the corner and what stands at the left.
-#[derive(Drop)]
+#[derive(Clone, Copy)]
 pub(crate) struct Rows {
     pub(crate) top: [u8; 9],
     pub(crate) left: [u8; 5],

@@ -50,7 +50,7 @@ pub fn rebuild_beside4(layout: Layout, m: usize, part: &[u8], plane: &[u8], own:
 }
 
 // What is coded of sixteen blocks besides their levels and samples: their modes, and the sum of their SADs.
-#[derive(Drop)]
+#[derive(Clone, Copy)]
 pub struct Fours {
     pub modes: [u8; 16],
     pub sad: u64,

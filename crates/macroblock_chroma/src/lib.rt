@@ -10,7 +10,7 @@ mod rebuild;
 use quantizer::Quantizer;
 
 // The quantizers of Cb and Cr, where both offsets are in their range.
-#[derive(Drop)]
+#[derive(Clone, Copy)]
 pub(crate) enum Quantizers {
     Legal(Quantizer, Quantizer),
     Refused,

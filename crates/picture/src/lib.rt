@@ -6,7 +6,7 @@
 pub mod inner;
 
 // A picture's size in macroblocks. `rows` are the rows of a slice, of which the last may have fewer; a picture of one slice has its height there.
-#[derive(Drop)]
+#[derive(Clone, Copy)]
 pub struct Layout {
     pub width: usize,
     pub height: usize,

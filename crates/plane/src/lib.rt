@@ -16,14 +16,14 @@ mod content;
 pub mod inner;
 
 // The answer where a plane is coded: how many bytes of the file area were used.
-#[derive(Drop)]
+#[derive(Clone, Copy)]
 pub enum CodedPlane {
     Bytes(usize),
     Refused(Refusal),
 }
 
 // What a macroblock of a colour file has behind its luma record: its chroma record begins at a place and ends before another; and luma's QP.
-#[derive(Drop)]
+#[derive(Clone, Copy)]
 pub struct Behind {
     pub qp: u8,
     pub place: usize,

@@ -12,7 +12,7 @@ use intra4::Chosen;
 use refusal::Refusal;
 
 // Text and its length; what stands behind it is 0.
-#[derive(Drop)]
+#[derive(Clone, Copy)]
 pub struct Text {
     pub bytes: [u8; 1024],
     pub len: usize,

@@ -12,20 +12,20 @@ use refusal::Refusal;
 
 pub mod inner;
 
-#[derive(Drop)]
+#[derive(Clone, Copy)]
 pub struct Quantizer {
     qp: u8,
 }
 
 // The answer where a quantizer is asked for.
-#[derive(Drop)]
+#[derive(Clone, Copy)]
 pub enum Built {
     Legal(Quantizer),
     Refused(Refusal),
 }
 
 // The position classes of a block's places.
-#[derive(Drop)]
+#[derive(Clone, Copy)]
 pub enum Class {
     A,
     B,

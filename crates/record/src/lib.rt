@@ -7,7 +7,7 @@ use refusal::Fault;
 pub mod inner;
 
 // A kind of record: its mark, how many bytes stand before its levels, and how many levels it has.
-#[derive(Drop)]
+#[derive(Clone, Copy)]
 pub struct Kind {
     pub mark: u16,
     pub front: usize,
@@ -15,21 +15,21 @@ pub struct Kind {
 }
 
 // What is expected where a record begins: whether a chroma record, and which number.
-#[derive(Drop)]
+#[derive(Clone, Copy)]
 pub struct Expected {
     pub chroma: bool,
     pub number: usize,
 }
 
 // The answer to the test of one record's form: its length where it is fine.
-#[derive(Drop)]
+#[derive(Clone, Copy)]
 pub enum Form {
     Fine(usize),
     Faulty(Fault),
 }
 
 // The end of a walk over records: the place behind the last, or the first faulty one's fault and its first byte's place.
-#[derive(Drop)]
+#[derive(Clone, Copy)]
 pub enum Walk {
     Whole(usize),
     Broken(Fault, usize),

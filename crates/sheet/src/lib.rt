@@ -12,7 +12,7 @@ mod means;
 mod sums;
 
 // Three means over the samples of the macroblocks that are present.
-#[derive(Drop)]
+#[derive(Clone, Copy)]
 pub struct Sheet {
     pub absolute: f64,
     pub squared: f64,
@@ -20,7 +20,7 @@ pub struct Sheet {
 }
 
 // The answer where a sheet is asked for: with nothing present there is none.
-#[derive(Drop)]
+#[derive(Clone, Copy)]
 pub enum Sheeted {
     Sheet(Sheet),
     Nothing,

@@ -21,7 +21,7 @@ use crate::map::is_present;
 use whole::inner::gap;
 
 // Sums over some samples: of absolute and squared errors, of rebuilt and of original samples. Those of a macroblock fit 32 bits.
-#[derive(Drop)]
+#[derive(Clone, Copy)]
 struct Sums {
     absolute: u32,
     squared: u32,
@@ -30,7 +30,7 @@ struct Sums {
 }
 
 // Those of a picture fit 64.
-#[derive(Drop)]
+#[derive(Clone, Copy)]
 pub(crate) struct Totals {
     pub(crate) absolute: u64,
     pub(crate) squared: u64,

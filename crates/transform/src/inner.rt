@@ -8,7 +8,7 @@ ghost use Rattle.transform.specs.Forward.{C, forward};
 ghost use Rattle.transform.specs.Hadamard.{H4, H2, hadamard};
 ghost use Rattle.transform.specs.Inverse.{back, inverse, rounded};
 
-#[derive(Drop)]
+#[derive(Clone, Copy)]
 struct Quad {
     p: i32,
     q: i32,
@@ -16,7 +16,7 @@ struct Quad {
     s: i32,
 }
 
-#[derive(Drop)]
+#[derive(Clone, Copy)]
 struct Quads {
     a: Quad,
     b: Quad,

@@ -43,7 +43,7 @@ pub(crate) const LAST: usize = 35814;
 pub(crate) const END: usize = 36838;
 
 // A picture's size and the rows of a slice, which are the first arguments of a coder.
-#[derive(Drop)]
+#[derive(Clone, Copy)]
 pub(crate) struct Size {
     pub(crate) width: usize,
     pub(crate) height: usize,
