@@ -44,7 +44,7 @@ pub fn code_block(
             let made = block.levels;
             let back = block.rebuilt;
             whole::inner::copy(&made, levels);
-            bytes::copy(&back, rebuilt);
+            rebuilt.copy_from_slice(&back);
             Chosen::Mode(block.mode, block.sad)
         }
     }

@@ -77,11 +77,11 @@ pub(crate) fn pick(neighbours: &[u8], flags: u8, samples: &[u8], prediction: &mu
     let top = rows.top;
     let left = rows.left;
     if search::vertical_fits(top, left, flags, samples) {
-        bytes::copy(samples, prediction);
+        prediction.copy_from_slice(samples);
         return Standing { mode: 0, cost: 0 };
     }
     if search::horizontal_fits(top, left, flags, samples) {
-        bytes::copy(samples, prediction);
+        prediction.copy_from_slice(samples);
         return Standing { mode: 1, cost: 0 };
     }
     let mut area = [0u8; 144];
@@ -89,7 +89,7 @@ pub(crate) fn pick(neighbours: &[u8], flags: u8, samples: &[u8], prediction: &mu
     let best = search::best(&area, flags, samples);
     let at = 16 * (best.mode as usize);
     let end = at + 16;
-    bytes::copy(&area[at..end], prediction);
+    prediction.copy_from_slice(&area[at..end]);
     best
 }
 

@@ -70,7 +70,7 @@ fn write_front(kind: Kind, number: u16, next: u8, more: &[u8], front: &mut [u8])
     front[2] = (number / 256) as u8;
     front[3] = (number % 256) as u8;
     front[4] = next;
-    bytes::copy(more, &mut front[5..]);
+    front[5..].copy_from_slice(more);
 }
 
 // A record of a kind: front, levels, sum.

@@ -36,7 +36,7 @@ fn finished(prediction: &[u8], numbers: [i32; 16], out: &mut [u8]) -> Answer
     if place < 16 {
         return Answer::Refused(Refusal::Range(place));
     }
-    bytes::copy(prediction, out);
+    out.copy_from_slice(prediction);
     inner::rebuild_over(out, numbers);
     Answer::Done
 }
