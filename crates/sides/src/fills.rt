@@ -13,7 +13,7 @@ pub(crate) fn row_of(side: &[u8]) -> [u8; 16]
     ensures { take (length side.now) result ≡ side.now }
 {
     let mut own = [0u8; 16];
-    own.copy_from_slice(side);
+    own[..side.len()].copy_from_slice(side);
     own
 }
 
