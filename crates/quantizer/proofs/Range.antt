@@ -12,7 +12,7 @@ use lib.Dec.{leb}
 use Rattle.lists.specs.Chain.{pass, stop, chain}
 use Rattle.lists.proofs.Chain.{chain_exactly_if, holds_new, pass_not_stop}
 use Rattle.lists.proofs.Every.{both_true}
-use Rattle.refusal.proofs.Same.{says, says_same}
+use Rattle.refusal.proofs.Same.{says_same}
 use Rattle.refusal.specs.declared.Refusal.{Refusal}
 use Rattle.refusal.specs.declared.Refusal.TheVariants as refusal
 use Rattle.quantizer.specs.Range.{lowest, highest, quantizer_test, number_tests, said_built, qp_of, Builds}
