@@ -1,0 +1,29 @@
+use mathlib.Core.Path.{◌≡◌, sym, ◌∙◌}
+use Prim.Native.Nat.{◌<◌}
+use native.Mathlib.Omega.{arith}
+use borrow.Author.Rules.{rules}
+use Rattle.lists.proofs.Tab.{tab_same}
+use Rattle.picture.specs.Order.{row_in}
+use Rattle.picture.proofs.Around.{reach_above, above_place}
+use Rattle.picture.proofs.Over.{reach_own_above, above_own, above_beside}
+use Rattle.picture.proofs.inner.above_over.Goals as goal
+
+-- `picture::inner::above_over` meets its contract: A to D, read where they stand. Assumes nothing.
+pub four-requires : goal.four-requires
+four-requires c =
+    rw (c.own_place.ensures, c.requires.plane_len.1) (reach_own_above c.args.b c.requires.among.block c.has_above-present.result (omega (arith, c.if-row_inside-gt0.true, c.row_inside.ensures.0)))
+
+pub four-requires-else-row_inside-gt0 : goal.four-requires-else-row_inside-gt0
+four-requires-else-row_inside-gt0 c =
+    rw (c.has_above-present.ensures, c.first_place.ensures, c.requires.plane_len.0) (reach_above c.requires.among)
+
+pub returns-then-row_inside-gt0 : goal.returns-then-row_inside-gt0
+returns-then-row_inside-gt0 c =
+    let a = c.args in
+    rw (c.four.ensures, c.own_place.ensures, c.has_above-present.ensures) (sym (tab_same 4 _ _ (above_own c.requires.among a.own.now a.plane.now c.requires.plane_len.0 (omega (arith, c.if-row_inside-gt0.true, c.row_inside.ensures.0)))))
+
+pub returns-else-row_inside-gt0 : goal.returns-else-row_inside-gt0
+returns-else-row_inside-gt0 c =
+    let a = c.args in
+    rw (c.four-else-row_inside-gt0.ensures, c.first_place.ensures, c.has_above-present.ensures)
+    (sym (tab_same 4 _ _ (λ i h. above_beside c.requires.among a.own.now a.plane.now c.requires.plane_len.0 (omega (arith, c.if-row_inside-gt0.false, c.row_inside.ensures.0)) i h ∙ above_place c.requires.among a.plane.now i h)))

@@ -1,0 +1,7 @@
+use native.Mathlib.Omega.{arith}
+use borrow.Author.Rules.{rules}
+use Rattle.picture.proofs.Blocks.{column_code}
+use Rattle.picture.proofs.inner.column_inside.Goals as goal
+
+pub returns : goal.returns
+returns c = omega (arith, column_code c.args.b c.requires)

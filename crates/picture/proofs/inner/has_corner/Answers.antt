@@ -1,0 +1,12 @@
+use mathlib.Core.Path.{sym, ◌∙◌}
+use borrow.Author.Rules.{rules}
+use Rattle.picture.proofs.Byte.{among_four, corner_is}
+use Rattle.picture.proofs.inner.has_corner.Goals as goal
+
+pub returns-then-has_above : goal.returns-then-has_above
+returns-then-has_above c =
+    rw (corner_is (among_four c.requires), sym c.has_above.ensures ∙ c.if-has_above.true) c.has_left.ensures
+
+pub returns-else-has_above : goal.returns-else-has_above
+returns-else-has_above c =
+    rw (corner_is (among_four c.requires), sym c.has_above.ensures ∙ c.if-has_above.false)

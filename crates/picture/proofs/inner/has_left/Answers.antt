@@ -1,0 +1,6 @@
+use borrow.Author.Rules.{rules}
+use Rattle.picture.proofs.Byte.{among_four, left_is}
+use Rattle.picture.proofs.inner.has_left.Goals as goal
+
+pub returns : goal.returns
+returns c = rw (c.column.ensures, left_is (among_four c.requires))

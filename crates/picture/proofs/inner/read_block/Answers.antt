@@ -1,0 +1,11 @@
+use mathlib.Core.Path.{◌∙◌}
+use borrow.Author.Rules.{rules}
+use Rattle.picture.specs.Plane.{stride, block_at}
+use Rattle.picture.proofs.Plane.{room_among}
+use Rattle.picture.proofs.inner.read_block.Goals as goal
+
+-- `picture::inner::read_block` meets its contract. Assumes nothing.
+pub block_at-requires : goal.block_at-requires
+block_at-requires c =
+    let r = room_among c.requires.among in
+    rw (c.column-x.ensures, c.row-y.ensures, c.requires.plane_len) (r.wide, r.high)

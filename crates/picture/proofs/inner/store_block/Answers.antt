@@ -1,0 +1,11 @@
+use mathlib.Core.Path.{◌∙◌}
+use borrow.Author.Rules.{rules}
+use Rattle.picture.specs.Plane.{stride, stored}
+use Rattle.picture.proofs.Plane.{room_among}
+use Rattle.picture.proofs.inner.store_block.Goals as goal
+
+-- `picture::inner::store_block` meets its contract. Assumes nothing.
+pub store_at-requires : goal.store_at-requires
+store_at-requires c =
+    let r = room_among c.requires.among in
+    rw (c.column-x.ensures, c.row-y.ensures, c.requires.plane_len) (r.wide, r.high)
