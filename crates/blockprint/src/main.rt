@@ -2,12 +2,33 @@
 
 #![tactic(auto)]
 
-fn main() {
+ghost use Rattle.std.specs.Prelude.{◌≤◌, length, IfOk};
+
+use std::io;
+use std::io::{Print, Read};
+
+fn main(rt: HostRuntime) -> io::Result<()> {
     // room for one byte more than wanted, so that a longer input is seen
     let mut input = [0u8; 32];
-    let count = io::read_full(0, &mut input);
+    let count = read_full(&mut rt.stdin(), &mut input)?;
     let text = printing::printed(&input[..count]);
     let bytes = text.bytes;
     let len = text.len;
-    io::write_all(1, &bytes[..len]);
+    rt.write_all(&bytes[..len])
+}
+
+// Reads until the buffer is full or the input ends, and gives how many bytes there are. A read takes one at the least, so there are no more reads than
+// bytes.
+fn read_full<R: Read>(reader: &mut R, buffer: &mut [u8]) -> io::Result<usize>
+    ensures { IfOk result (λ n. n ≤ length buffer.new) }
+{
+    let mut count = 0;
+    for _ in 0..buffer.len() {
+        let taken = reader.read(&mut buffer[count..])?;
+        if taken == 0 {
+            break;
+        }
+        count += taken;
+    }
+    Ok(count)
 }

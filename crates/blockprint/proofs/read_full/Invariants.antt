@@ -1,0 +1,6 @@
+-- `blockprint::read_full` is safe: what was read stands inside the buffer. Assumes nothing.
+use Rattle.std.proofs.Common.{◌≤◌, length}
+use Rattle.blockprint.proofs.read_full.Given as goal
+
+abbrev pub invariant-loop : goal.invariant-loop
+invariant-loop g l = l.count ≤ length l.buffer
