@@ -91,6 +91,7 @@ fn has_corner(layout: Layout, m: usize, b: usize) -> bool
 
 // Whether the upper right of block b comes before it where it lies in the picture. A match, since the compiler would copy a table to the
 // stack for each block.
+#[tactic(auto, unfolding(crate::specs::Reach::early))]
 fn early(b: usize) -> bool
     ensures { result ≡ early 4 b }
 {

@@ -1,9 +1,6 @@
-use mathlib.Core.Path.{◌≡◌, sym, ◌∙◌}
-use Prim.Native.Nat.{◌<◌}
+use mathlib.Core.Path.{sym, ◌∙◌}
 use native.Mathlib.Omega.{arith}
-use borrow.Author.Rules.{rules}
 use Rattle.lists.proofs.Tab.{tab_same}
-use Rattle.picture.specs.Order.{row_in}
 use Rattle.picture.proofs.Around.{reach_above, above_place}
 use Rattle.picture.proofs.Over.{reach_own_above, above_own, above_beside}
 use Rattle.picture.proofs.inner.above_over.Goals as goal

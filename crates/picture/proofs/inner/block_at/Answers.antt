@@ -1,8 +1,5 @@
 use mathlib.Core.Path.{refl}
-use Prim.Native.Nat.{◌<◌}
-use native.Mathlib.Omega.{arith}
-use borrow.Author.Rules.{rules}
-use Rattle.lists.proofs.Tab.{squaring_none, squaring_more, squaring_row, squaring_done}
+use Rattle.lists.proofs.Tab.{squaring_none, squaring_more, squaring_done}
 use Rattle.picture.proofs.Plane.{block_by}
 use Rattle.picture.proofs.inner.block_at.Goals as goal
 

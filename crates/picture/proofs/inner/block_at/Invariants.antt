@@ -1,11 +1,7 @@
-use mathlib.Core.Path.{refl}
 use mathlib.Core.List.{List}
-use Prim.Native.Nat.{ℕ, ◌+◌, ◌*◌, ◌-◌, ◌<◌}
-use native.Mathlib.Omega.{arith}
-use borrow.Author.Rules.{rules}
-use lib.ListN.{length, get_or}
-use Rattle.lists.proofs.Tab.{Squaring, squaring_none, squaring_more, squaring_row, squaring_done}
-use Rattle.picture.proofs.Plane.{Room, spot_at, block_by}
+use Prim.Native.Nat.{ℕ, ◌+◌, ◌*◌}
+use lib.ListN.{get_or}
+use Rattle.lists.proofs.Tab.{Squaring}
 use Rattle.picture.proofs.inner.block_at.Given as goal
 
 -- the sample in column i of row j of the block whose first stands at place `at`
@@ -17,4 +13,3 @@ invariant-loop-i l = Squaring 4 (rule l.plane l.stride l.at) l.out l.j l.i
 
 abbrev pub invariant-loop-j : goal.invariant-loop-j
 invariant-loop-j l = Squaring 4 (rule l.plane l.stride l.at) l.out l.j 0
-

@@ -1,5 +1,3 @@
-use native.Mathlib.Nat.{mod-lt}
-use native.Mathlib.Omega.{arith}
 use borrow.Author.Rules.{rules}
 use Rattle.picture.specs.Order.{block_column}
 use Rattle.picture.proofs.inner.column.Goals as goal

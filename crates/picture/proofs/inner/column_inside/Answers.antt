@@ -1,5 +1,4 @@
 use native.Mathlib.Omega.{arith}
-use borrow.Author.Rules.{rules}
 use Rattle.picture.proofs.Blocks.{column_code}
 use Rattle.picture.proofs.inner.column_inside.Goals as goal
 

@@ -1,13 +1,9 @@
-use mathlib.Core.Path.{refl}
-use Prim.Native.Nat.{◌+◌, ◌-◌}
-use native.Mathlib.Omega.{arith}
-use borrow.Author.Rules.{rules}
+use Prim.Native.Nat.{◌+◌}
 use lib.ListN.{get_or}
-use Rattle.lists.proofs.Stores.{Storing, storing_none, storing_more, storing_done}
+use Rattle.lists.proofs.Stores.{Storing}
 use Rattle.picture.proofs.inner.copy_row.Given as goal
 
 -- `picture::inner::copy_row` meets its contract: a loop whose stores go on by one.
 -- Assumes nothing.
 abbrev pub invariant-loop-k : goal.invariant-loop-k
 invariant-loop-k l = Storing (λ i. l.place + i) (λ i. get_or l.from (l.start + i) 0) l.count l.initial.to l.to l.k
-

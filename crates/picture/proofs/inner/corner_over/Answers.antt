@@ -1,11 +1,9 @@
 use mathlib.Core.Path.{◌≡◌, sym, ◌∙◌}
 use Prim.Native.Nat.{ℕ, ◌*◌, ◌<◌, ◌≤◌}
-use native.Mathlib.Nat.{mul-le-mul}
 use native.Mathlib.Omega.{arith}
-use borrow.Author.Rules.{rules}
 use Rattle.picture.specs.Order.{column_in, row_in}
 use Rattle.picture.proofs.Around.{reach_corner, corner_place}
-use Rattle.picture.proofs.Over.{both_some, reach_own_corner, corner_own, corner_beside}
+use Rattle.picture.proofs.Over.{both_some, corner_own, corner_beside}
 use Rattle.picture.proofs.inner.corner_over.Goals as goal
 
 -- `picture::inner::corner_over` meets its contract: M, read where it stands. Assumes nothing.

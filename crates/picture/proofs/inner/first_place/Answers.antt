@@ -1,5 +1,4 @@
 use native.Mathlib.Omega.{arith}
-use borrow.Author.Rules.{rules}
 use Rattle.picture.proofs.Plane.{samples_fit, first_in_law}
 use Rattle.picture.proofs.inner.first_place.Goals as goal
 

@@ -1,4 +1,3 @@
-use borrow.Author.Rules.{rules}
 use Rattle.picture.proofs.Byte.{among_four, flags_by}
 use Rattle.picture.proofs.inner.flags.Goals as goal
 

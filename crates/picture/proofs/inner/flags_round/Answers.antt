@@ -1,5 +1,4 @@
 use native.Mathlib.Omega.{arith}
-use borrow.Author.Rules.{rules}
 use Rattle.picture.proofs.Round.{first_above, first_left, first_corner, flags_round_by}
 use Rattle.picture.proofs.inner.flags_round.Goals as goal
 

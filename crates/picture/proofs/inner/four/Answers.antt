@@ -1,11 +1,7 @@
 use mathlib.Core.Path.{refl}
-use Prim.Native.Nat.{◌+◌, ◌*◌, ◌-◌, ◌<◌, ◌≤◌}
-use native.Mathlib.Nat.{mul-le-mul_right}
-use native.Mathlib.Omega.{arith}
 use borrow.Author.Rules.{rules}
-use lib.ListN.{length, get_or}
 use Rattle.lists.specs.Tab.{tab}
-use Rattle.lists.proofs.Tab.{Filling, filling_none, filling_more, filling_done}
+use Rattle.lists.proofs.Tab.{filling_none, filling_more}
 use Rattle.picture.proofs.inner.four.Goals as goal
 
 pub loop-k-init : goal.loop-k-init

@@ -1,7 +1,6 @@
 use mathlib.Core.Path.{sym}
 use Rattle.lists.specs.Tab.{tab}
 use Rattle.picture.proofs.Around.{reach_corner, reach_above, reach_right, reach_left, gathered_parts}
-use borrow.Author.Rules.{rules}
 use Rattle.picture.proofs.inner.gather.Goals as goal
 
 pub sample-corner-requires : goal.sample-corner-requires

@@ -1,5 +1,4 @@
 use mathlib.Core.Path.{sym}
-use borrow.Author.Rules.{rules}
 use Rattle.lists.specs.Tab.{tab}
 use Rattle.picture.specs.Whole.{with_whole}
 use Rattle.picture.proofs.Around.{in_groups}

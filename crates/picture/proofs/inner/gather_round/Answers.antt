@@ -1,13 +1,9 @@
-use mathlib.Core.Path.{◌≡◌, ◌∙◌}
-use mathlib.Core.Bool.{◌&&◌}
-use Prim.Native.Nat.{◌/◌, ◌%◌}
+use mathlib.Core.Path.{◌∙◌}
 use native.Mathlib.Omega.{arith}
-use borrow.Author.Rules.{rules}
-use lib.Dec.{ltb}
 use Rattle.lists.proofs.Stores.{storing_none}
 use Rattle.picture.specs.Whole.{gathered_round}
 use Rattle.picture.proofs.Round.{first_above, first_left, first_corner}
-use Rattle.picture.proofs.Rows.{stride_fit, reach_round_corner, reach_round_above, reach_round_left, corner_run, above_run, left_run, stored_in_turn}
+use Rattle.picture.proofs.Rows.{reach_round_corner, reach_round_above, reach_round_left, corner_run, above_run, left_run, stored_in_turn}
 use Rattle.picture.proofs.inner.gather_round.Goals as goal
 
 -- ---- the three lines

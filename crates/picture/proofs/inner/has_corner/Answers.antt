@@ -1,5 +1,4 @@
 use mathlib.Core.Path.{sym, ◌∙◌}
-use borrow.Author.Rules.{rules}
 use Rattle.picture.proofs.Byte.{among_four, corner_is}
 use Rattle.picture.proofs.inner.has_corner.Goals as goal
 

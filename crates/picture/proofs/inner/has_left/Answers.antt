@@ -1,4 +1,3 @@
-use borrow.Author.Rules.{rules}
 use Rattle.picture.proofs.Byte.{among_four, left_is}
 use Rattle.picture.proofs.inner.has_left.Goals as goal
 

@@ -1,5 +1,4 @@
 use mathlib.Core.Path.{refl}
-use borrow.Author.Rules.{rules}
 use Rattle.lists.specs.Tab.{tab}
 use Rattle.picture.proofs.inner.in_one_list.Goals as goal
 

@@ -1,6 +1,3 @@
-use mathlib.Core.Path.{◌∙◌}
-use borrow.Author.Rules.{rules}
-use Rattle.picture.specs.Plane.{stride, block_at}
 use Rattle.picture.proofs.Plane.{room_among}
 use Rattle.picture.proofs.inner.read_block.Goals as goal
 

@@ -1,16 +1,9 @@
-use mathlib.Core.Path.{◌≡◌, refl}
 use mathlib.Core.List.{List}
-use Prim.Native.Nat.{ℕ, ◌+◌, ◌*◌, ◌-◌, ◌≤◌}
-use native.Mathlib.Nat.{mul-le-mul}
-use native.Mathlib.Omega.{arith}
-use borrow.Author.Rules.{rules}
+use Prim.Native.Nat.{ℕ, ◌+◌, ◌*◌, ◌≤◌}
 use lib.ListN.{get_or}
-use Rattle.lists.specs.Tab.{grid, in_raster}
-use Rattle.lists.proofs.Stores.{Storing, storing_none}
-use Rattle.picture.specs.Plane.{stride, plane_length}
-use Rattle.picture.specs.Whole.{whole_column, whole_row}
-use Rattle.picture.proofs.Plane.{block_by}
-use Rattle.picture.proofs.Rows.{stride_fit, plane_fit, row_in, rows_room, row_read, stored_in_turn}
+use Rattle.lists.specs.Tab.{in_raster}
+use Rattle.lists.proofs.Stores.{Storing}
+use Rattle.picture.specs.Plane.{stride}
 use Rattle.picture.proofs.inner.read_whole.Given as goal
 
 -- the sample in column i of row j of the macroblock whose first stands at place `first`
@@ -19,4 +12,3 @@ rule plane stride first i j = get_or plane (first + j * stride + i) 0
 
 abbrev pub invariant-loop-y : goal.invariant-loop-y
 invariant-loop-y l = (l.y ≤ l.s) × Storing (λ k. k) (in_raster l.s (rule l.plane l.stride l.first)) (l.s * l.s) l.initial.out l.out (l.y * l.s)
-

@@ -1,9 +1,6 @@
-use mathlib.Core.Path.{◌≡◌, sym, ◌∙◌}
-use Prim.Native.Nat.{◌<◌}
+use mathlib.Core.Path.{sym, ◌∙◌}
 use native.Mathlib.Omega.{arith}
-use borrow.Author.Rules.{rules}
 use Rattle.lists.proofs.Tab.{tab_same}
-use Rattle.picture.specs.Order.{row_in}
 use Rattle.picture.proofs.Around.{reach_right, right_place}
 use Rattle.picture.proofs.Over.{reach_own_right, right_own, right_beside}
 use Rattle.picture.proofs.inner.right_over.Goals as goal

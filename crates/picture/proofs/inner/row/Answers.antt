@@ -1,7 +1,5 @@
-use native.Mathlib.Omega.{arith}
 use borrow.Author.Rules.{rules}
 use Rattle.picture.specs.Order.{block_row}
-use Rattle.picture.proofs.Byte.{row_in_height}
 use Rattle.picture.proofs.inner.row.Goals as goal
 
 pub returns : goal.returns

@@ -1,5 +1,4 @@
 use native.Mathlib.Omega.{arith}
-use borrow.Author.Rules.{rules}
 use Rattle.picture.proofs.Blocks.{row_code}
 use Rattle.picture.proofs.inner.row_inside.Goals as goal
 

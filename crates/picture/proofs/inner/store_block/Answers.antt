@@ -1,6 +1,3 @@
-use mathlib.Core.Path.{◌∙◌}
-use borrow.Author.Rules.{rules}
-use Rattle.picture.specs.Plane.{stride, stored}
 use Rattle.picture.proofs.Plane.{room_among}
 use Rattle.picture.proofs.inner.store_block.Goals as goal
 

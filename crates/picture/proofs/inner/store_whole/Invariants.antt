@@ -1,14 +1,7 @@
-use mathlib.Core.Path.{◌≡◌}
-use Prim.Native.Nat.{ℕ, ◌+◌, ◌*◌, ◌-◌, ◌/◌, ◌%◌, ◌≤◌}
-use native.Mathlib.Nat.{mul-le-mul}
-use native.Mathlib.Omega.{arith}
-use borrow.Author.Rules.{rules}
+use Prim.Native.Nat.{ℕ, ◌+◌, ◌*◌, ◌/◌, ◌%◌, ◌≤◌}
 use lib.ListN.{get_or}
-use Rattle.lists.proofs.Stores.{Storing, storing_none, storing_done}
-use Rattle.picture.specs.Plane.{stride, plane_length}
-use Rattle.picture.specs.Whole.{whole_column, whole_row}
-use Rattle.picture.proofs.Plane.{stored_by}
-use Rattle.picture.proofs.Rows.{stride_fit, plane_fit, row_in, rows_room, row_stored}
+use Rattle.lists.proofs.Stores.{Storing}
+use Rattle.picture.specs.Plane.{stride}
 use Rattle.picture.proofs.inner.store_whole.Given as goal
 
 -- where sample k goes, of the macroblock whose first stands at place `first`
@@ -17,4 +10,3 @@ goes s stride first k = first + k / s * stride + k % s
 
 abbrev pub invariant-loop-y : goal.invariant-loop-y
 invariant-loop-y l = (l.y ≤ l.s) × Storing (goes l.s l.stride l.first) (λ k. get_or l.samples k 0) (l.s * l.s) l.initial.plane l.plane (l.y * l.s)
-
