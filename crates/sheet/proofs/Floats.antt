@@ -7,7 +7,7 @@
 use mathlib.Core.Path.{◌≡◌, sym, ap, ◌∙◌, subst}
 use mathlib.Core.Bool.{Bool, true, false, cond}
 use Prim.Native.Nat.{ℕ, suc, ◌+◌, ◌-◌, ◌*◌, ◌^◌, ◌≤◌, ◌<◌}
-use native.Mathlib.Nat.{mul_one, mul_assoc, mul-pos, lt_of_lt_of_le}
+use native.Mathlib.Nat.{mul-one, mul_assoc, mul-pos, lt_of_lt_of_le}
 use native.Mathlib.Omega.{arith}
 use lib.Dec.{T, eqb, le→leb, lt→ltb}
 use lib.IntN.{ℤ, pos, negsuc, nat_abs}
@@ -47,8 +47,8 @@ turned a b x y = omega arith
 fraction : (s : Bool) (m n a b : ℕ) (e d : ℤ) → 0 < b → m * up e * 1 ≡ a * down e → n * up d * 1 ≡ b * down d
     → cond (eqb n 0) (cond (eqb m 0) nan (inf s)) (round binary64 s (m * up e * down d) (n * up d * down e)) ≡ round binary64 s a b
 fraction s m n a b e d h p q =
-    let p' : m * up e ≡ a * down e = sym (mul_one _) ∙ p in
-    let q' : n * up d ≡ b * down d = sym (mul_one _) ∙ q in
+    let p' : m * up e ≡ a * down e = sym (mul-one _) ∙ p in
+    let q' : n * up d ≡ b * down d = sym (mul-one _) ∙ q in
     let z : 0 < n * up d = subst (λ (k : ℕ). 0 < k) (sym q') (mul-pos h (down_pos d)) in
     let n_pos : 0 < n = first_pos n (up d) z in
     simp (ne_eqb n 0 (λ w. omega arith))

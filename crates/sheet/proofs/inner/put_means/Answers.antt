@@ -1,12 +1,11 @@
--- `sheet::inner::put_means` meets its contract. Assumes nothing.
 use mathlib.Core.Path.{◌≡◌, refl}
 use mathlib.Core.List.{List, [], ◌∷◌}
 use native.Mathlib.Omega.{arith}
 use borrow.Author.Rules.{rules}
 use lib.ListN.{length, set}
-use Rattle.sheet.proofs.inner.put_means.Statement.{statement}
-use Rattle.sheet.proofs.inner.put_means.Tie as tie
+use Rattle.sheet.proofs.inner.put_means.Goals as goal
 
+-- `sheet::inner::put_means` meets its contract. Assumes nothing.
 three : {A : Type 0} (l : List A) (a b c : A) → length l ≡ 3 → set (set (set l 0 a) 1 b) 2 c ≡ a ∷ b ∷ c ∷ []
 three [] a b c e = absurd (omega arith)
 three (x ∷ []) a b c e = absurd (omega arith)
@@ -14,15 +13,5 @@ three (x ∷ y ∷ []) a b c e = absurd (omega arith)
 three (x ∷ y ∷ z ∷ []) a b c e = refl
 three (x ∷ y ∷ z ∷ w ∷ l) a b c e = absurd (omega arith)
 
-returns : tie.Need-returns
+pub returns : goal.returns
 returns c = three c.args.out.now _ _ _ c.requires
-
-pub put-means-spec : {M : Type 1} → statement M
-put-means-spec =
-    tie.close
-    (tie.spec
-    (λ c. search rules)
-    (λ c. search rules)
-    (λ c. search rules)
-    (λ c. search rules)
-    returns)

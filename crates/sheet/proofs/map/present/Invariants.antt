@@ -1,0 +1,15 @@
+use mathlib.Core.Bool.{cond}
+use Prim.Native.Nat.{ℕ, ◌-◌}
+use native.Mathlib.Omega.{arith}
+use borrow.Author.Rules.{rules}
+use lib.ListN.{length}
+use Rattle.lists.proofs.Total.{Totalling, totalling_none, totalling_more, totalling_done}
+use Rattle.sheet.specs.Errors.{is_present, present_count}
+use Rattle.sheet.proofs.map.present.Given as goal
+
+-- `sheet::map::present` meets its contract: a loop that counts. Assumes nothing.
+abbrev pub invariant-loop-m : goal.invariant-loop-m
+invariant-loop-m l = Totalling (length l.map) (λ (m : ℕ). cond (is_present l.map m) 1 0) 1 l.count l.m
+
+abbrev pub decreases-loop-m : goal.decreases-loop-m
+decreases-loop-m l = length l.map - l.m

@@ -1,0 +1,11 @@
+use Prim.Native.Nat.{ℕ, ◌+◌, ◌-◌, ◌*◌, ◌≤◌}
+use native.Mathlib.Nat.{mul-le-mul_right}
+use native.Mathlib.Omega.{arith}
+use borrow.Author.Rules.{rules}
+use Rattle.sheet.specs.Code.{of_sums, row_total}
+use Rattle.sheet.proofs.Adding.{at_most_more, Adding, adding_none, adding_below, adding_more, adding_done}
+use Rattle.sheet.proofs.sums.macroblock.Given as goal
+
+-- `sheet::sums::macroblock` meets its contract: a loop over sixteen rows. Assumes nothing.
+abbrev pub invariant-loop-y : goal.invariant-loop-y
+invariant-loop-y l = Adding 16 16 (λ (g : ℕ → ℕ) j. row_total 16 (l.at + j * l.stride) g) l.original l.rebuilt (of_sums l.sums) l.y

@@ -1,0 +1,16 @@
+use mathlib.Core.Path.{refl}
+use mathlib.Core.Bool.{cond}
+use Prim.Native.Nat.{ℕ, ◌-◌}
+use native.Mathlib.Omega.{arith}
+use borrow.Author.Rules.{rules}
+use Rattle.picture.specs.Plane.{layout_of}
+use Rattle.picture.proofs.Plane.{samples_fit}
+use Rattle.sheet.specs.Code.{of_totals, macroblock_total, present_total}
+use Rattle.sheet.specs.Errors.{is_present}
+use Rattle.sheet.proofs.Adding.{Adding, adding_none, adding_below, adding_more, adding_done}
+use Rattle.sheet.proofs.sums.over_picture.Given as goal
+
+-- `sheet::sums::over_picture` meets its contract: a loop over macroblocks. Assumes nothing.
+abbrev pub invariant-loop-m : goal.invariant-loop-m
+invariant-loop-m l =
+    Adding l.count 256 (λ (g : ℕ → ℕ) m. cond (is_present l.map m) (macroblock_total (layout_of l.width l.height) m g) 0) l.original l.rebuilt (of_totals l.totals) l.m

@@ -1,0 +1,16 @@
+use Prim.Native.Nat.{ℕ, ◌+◌, ◌-◌}
+use native.Mathlib.Omega.{arith}
+use borrow.Author.Rules.{rules}
+use Rattle.sheet.specs.Code.{of_sums}
+use Rattle.sheet.proofs.Adding.{at_most_more, Adding, adding_none, adding_below, adding_more, adding_done}
+use Rattle.sheet.proofs.sums.row.Goals as goal
+
+pub loop-x-preserved : goal.loop-x-preserved
+loop-x-preserved c =
+    adding_more _ _ _ _ _ c.loop-x.invariant c.loop-x-test.true c.one.ensures c.add_sums-sums.ensures
+
+pub returns : goal.returns
+returns c = adding_done _ _ _ _ _ c.loop-x.invariant (omega arith) (omega arith)
+
+pub loop-x-init : goal.loop-x-init
+loop-x-init c = adding_none _ _ _ _ _ c.none-sums.ensures
