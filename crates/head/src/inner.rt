@@ -16,6 +16,7 @@ const NEW_MARK: u16 = 72 * 256 + 83;
 const NEW_LENGTH: usize = 10;
 
 // Whether both are 1 to 128.
+#[tactic(auto, unfolding(crate::specs::Entry::size_holds))]
 pub fn size_holds(width: usize, height: usize) -> bool
     ensures { result ≡ size_holds width height }
 {
