@@ -1,0 +1,13 @@
+use native.Mathlib.Omega.{arith}
+use borrow.Author.Rules.{rules}
+use Rattle.intra4.proofs.Masked.{filled_is, mode_below_9}
+use Rattle.intra4.proofs.inner.fill.Goals as goal
+
+-- `intra4::inner::fill` meets its contract: the rows hold what the mask leaves. Assumes nothing.
+pub put-requires : goal.put-requires
+put-requires c = omega (arith, mode_below_9 _ _ c.requires.1)
+
+pub returns : goal.returns
+returns c =
+    let r = c.resolve-rows.ensures in
+    filled_is c.args.neighbours.now _ _ c.requires.0 c.requires.1 r.0 r.1 c.put.ensures
