@@ -1,3 +1,5 @@
+-- `transform::forward` meets its contract: each verdict by its law, and the coefficients by `forward_block` between two copies.
+-- Assumes nothing.
 use mathlib.Core.Path.{sym, ap, ◌∙◌}
 use Prim.Native.Nat.{◌≤◌}
 use native.Mathlib.Omega.{arith}

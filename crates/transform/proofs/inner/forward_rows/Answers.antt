@@ -1,3 +1,5 @@
+-- `transform::inner::forward_rows` meets its contract: four rows, each by `forward_row`.
+-- Assumes nothing.
 use Rattle.transform.specs.Quads.{through}
 use Rattle.transform.specs.Forward.{C}
 use Rattle.transform.proofs.Rows.{rows_flat}

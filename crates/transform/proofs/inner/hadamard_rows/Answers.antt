@@ -1,3 +1,5 @@
+-- `transform::inner::hadamard_rows` meets its contract: four rows, each by `hadamard_row`.
+-- Assumes nothing.
 use Rattle.transform.specs.Quads.{through}
 use Rattle.transform.specs.Hadamard.{H4}
 use Rattle.transform.proofs.Rows.{rows_flat}

@@ -1,3 +1,5 @@
+-- `transform::inner::in_rows` meets its contract: sixteen reads at literal places, read back from their bits.
+-- Assumes nothing.
 use borrow.Author.Rules.{rules}
 use mathlib.Core.Path.{◌≡◌, ◌∙◌}
 use lib.ListN.{length}

@@ -3,15 +3,10 @@ use mathlib.Core.Path.{◌≡◌, ap}
 use Prim.Native.Nat.{ℕ, ◌*◌, ◌/◌, ◌%◌, ◌^◌}
 use native.Mathlib.Omega.{arith}
 use lib.Pow.{pow_mono}
-use borrow.Author.Rules.{rules}
-use Rattle.residual.proofs.inner.half.Statement.{statement}
-use Rattle.residual.proofs.inner.half.Tie as tie
+use Rattle.residual.proofs.inner.half.Goals as goal
 
-returns : tie.Need-returns
+pub returns : goal.returns
 returns c =
     let small = pow_mono {i = c.args.shift} {j = 4} (omega arith) in
     let whole : 1 * 2 ^ c.args.shift % 4294967296 ≡ 2 ^ c.args.shift = omega arith in
     (ap (λ (n : ℕ). n / 2) whole, omega arith)
-
-pub half_spec : {M : Type 1} → statement M
-half_spec = tie.close (tie.spec (λ c. search rules) returns)
