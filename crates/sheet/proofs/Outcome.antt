@@ -25,7 +25,6 @@ use Rattle.sheet.specs.Code.{of_totals, SumsOver, present_total, sheet_from, Div
 use Rattle.sheet.specs.Entry.{first_flag, sheet_tests, write_tests, said_sheeted, given_in, Sheets, Writes}
 use Rattle.sheet.specs.Errors.{present_count}
 use Rattle.sheet.specs.Means.{Given, nothing, given, divided_once, sheet_of, given_of, area_of}
-use Rattle.sheet.specs.declared.Sheet.{Sheet}
 use Rattle.sheet.specs.declared.Sheeted.{Sheeted}
 use Rattle.sheet.specs.declared.Sheeted.TheVariants as answer
 use Rattle.sheet.specs.declared.sums.Totals.{Totals}

@@ -1,14 +1,9 @@
-use mathlib.Core.Path.{◌≡◌, sym, ◌∙◌}
 use mathlib.Core.Bool.{Bool}
 use mathlib.Core.List.{List}
 use Prim.Native.Nat.{ℕ, ◌-◌}
-use native.Mathlib.Omega.{arith}
-use borrow.Author.Rules.{rules}
-use borrow.Author.Tests.{lt-ltb, le-ltb}
 use lib.Dec.{ltb}
 use lib.ListN.{length, get_or}
-use Rattle.lists.proofs.First.{Searching, searching_none, searching_more, searching_here, searching_done}
-use Rattle.sheet.specs.Entry.{first_flag}
+use Rattle.lists.proofs.First.{Searching}
 use Rattle.sheet.proofs.map.first_flag.Given as goal
 
 -- the test that the definition hands to `first`

@@ -1,10 +1,8 @@
 use mathlib.Core.Bool.{cond}
 use Prim.Native.Nat.{ℕ, ◌-◌}
-use native.Mathlib.Omega.{arith}
-use borrow.Author.Rules.{rules}
 use lib.ListN.{length}
-use Rattle.lists.proofs.Total.{Totalling, totalling_none, totalling_more, totalling_done}
-use Rattle.sheet.specs.Errors.{is_present, present_count}
+use Rattle.lists.proofs.Total.{Totalling}
+use Rattle.sheet.specs.Errors.{is_present}
 use Rattle.sheet.proofs.map.present.Given as goal
 
 -- `sheet::map::present` meets its contract: a loop that counts. Assumes nothing.

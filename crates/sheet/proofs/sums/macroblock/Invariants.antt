@@ -1,9 +1,6 @@
-use Prim.Native.Nat.{ℕ, ◌+◌, ◌-◌, ◌*◌, ◌≤◌}
-use native.Mathlib.Nat.{mul-le-mul_right}
-use native.Mathlib.Omega.{arith}
-use borrow.Author.Rules.{rules}
+use Prim.Native.Nat.{ℕ, ◌+◌, ◌*◌}
 use Rattle.sheet.specs.Code.{of_sums, row_total}
-use Rattle.sheet.proofs.Adding.{at_most_more, Adding, adding_none, adding_below, adding_more, adding_done}
+use Rattle.sheet.proofs.Adding.{Adding}
 use Rattle.sheet.proofs.sums.macroblock.Given as goal
 
 -- `sheet::sums::macroblock` meets its contract: a loop over sixteen rows. Assumes nothing.

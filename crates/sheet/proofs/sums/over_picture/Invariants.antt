@@ -1,13 +1,9 @@
-use mathlib.Core.Path.{refl}
 use mathlib.Core.Bool.{cond}
-use Prim.Native.Nat.{ℕ, ◌-◌}
-use native.Mathlib.Omega.{arith}
-use borrow.Author.Rules.{rules}
+use Prim.Native.Nat.{ℕ}
 use Rattle.picture.specs.Plane.{layout_of}
-use Rattle.picture.proofs.Plane.{samples_fit}
-use Rattle.sheet.specs.Code.{of_totals, macroblock_total, present_total}
+use Rattle.sheet.specs.Code.{of_totals, macroblock_total}
 use Rattle.sheet.specs.Errors.{is_present}
-use Rattle.sheet.proofs.Adding.{Adding, adding_none, adding_below, adding_more, adding_done}
+use Rattle.sheet.proofs.Adding.{Adding}
 use Rattle.sheet.proofs.sums.over_picture.Given as goal
 
 -- `sheet::sums::over_picture` meets its contract: a loop over macroblocks. Assumes nothing.

@@ -1,13 +1,8 @@
-use mathlib.Core.Path.{◌≡◌, sym, ap, subst, ◌∙◌}
-use mathlib.Core.List.{List}
-use Prim.Native.Nat.{ℕ, ◌*◌}
+use mathlib.Core.Path.{◌≡◌, ap, ◌∙◌}
 use native.Mathlib.Omega.{arith}
-use borrow.Author.Rules.{rules}
-use borrow.Author.Tests.{not-true, not-false}
 use Rattle.picture.specs.declared.Layout.{Layout}
 use Rattle.picture.specs.Plane.{layout_of}
-use Rattle.sheet.specs.Code.{Four, SumsOver, square_total, first_place}
-use Rattle.sheet.proofs.Adding.{taken_part, left_out}
+use Rattle.sheet.specs.Code.{first_place}
 use Rattle.sheet.proofs.Places.{macroblock_lies}
 use Rattle.sheet.proofs.sums.part.Goals as goal
 use Rattle.sheet.proofs.sums.part.Goals.{After-first_place}

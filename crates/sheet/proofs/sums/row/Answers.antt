@@ -1,8 +1,5 @@
-use Prim.Native.Nat.{ℕ, ◌+◌, ◌-◌}
 use native.Mathlib.Omega.{arith}
-use borrow.Author.Rules.{rules}
-use Rattle.sheet.specs.Code.{of_sums}
-use Rattle.sheet.proofs.Adding.{at_most_more, Adding, adding_none, adding_below, adding_more, adding_done}
+use Rattle.sheet.proofs.Adding.{adding_none, adding_more, adding_done}
 use Rattle.sheet.proofs.sums.row.Goals as goal
 
 pub loop-x-preserved : goal.loop-x-preserved

@@ -1,8 +1,6 @@
-use Prim.Native.Nat.{ℕ, ◌+◌, ◌-◌}
-use native.Mathlib.Omega.{arith}
-use borrow.Author.Rules.{rules}
+use Prim.Native.Nat.{ℕ, ◌+◌}
 use Rattle.sheet.specs.Code.{of_sums}
-use Rattle.sheet.proofs.Adding.{at_most_more, Adding, adding_none, adding_below, adding_more, adding_done}
+use Rattle.sheet.proofs.Adding.{Adding}
 use Rattle.sheet.proofs.sums.row.Given as goal
 
 -- `sheet::sums::row` meets its contract: a loop over sixteen samples. Assumes nothing.
