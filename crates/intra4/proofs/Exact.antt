@@ -4,20 +4,20 @@
 --     vertical_ends, horizontal_ends     the first and the last sample of the two modes that are tested so
 --     vertical_picked, horizontal_picked     it is picked, where no lower mode fits so
 -- Assumes nothing.
-use mathlib.Core.Path.{◌≡◌, refl, sym, ap, subst, ◌∙◌}
+use mathlib.Core.Path.{◌≡◌, sym, ap, subst, ◌∙◌}
 use mathlib.Core.Bool.{Bool, true, false, not, false≢true}
 use mathlib.Core.List.{List}
 use mathlib.Core.Logic.{◌↔◌}
-use Prim.Native.Nat.{ℕ, ◌+◌, ◌<◌}
+use Prim.Native.Nat.{ℕ, ◌<◌}
 use native.Mathlib.Nat.{not-suc-le-zero}
 use native.Mathlib.Omega.{arith}
 use borrow.Author.Tests.{eqb-true, eq-eqb, not-false}
 use lib.Dec.{eqb}
-use lib.ListN.{length, get_or, drop}
+use lib.ListN.{length, get_or}
 use lib.Seq.{get_or-drop}
 use Rattle.lists.specs.Tab.{grid, tab}
-use Rattle.choice.specs.Choice.{Cost, is, at, sad}
-use Rattle.choice.proofs.Least.{zero_best, clash, same}
+use Rattle.choice.specs.Choice.{is, sad}
+use Rattle.choice.proofs.Least.{zero_best, same}
 use Rattle.choice.proofs.Sad.{sad_zero, sad_self}
 use Rattle.intra4.specs.Samples.{mask}
 use Rattle.intra4.specs.Rules.{permitted, vertical, horizontal}

@@ -1,12 +1,11 @@
+-- `intra4::fills::put` meets its contract, mode by mode. Assumes nothing.
 use mathlib.Core.Path.{◌≡◌, ◌∙◌, ap}
 use Prim.Native.Nat.{ℕ}
 use native.Mathlib.Omega.{arith}
-use borrow.Author.Rules.{rules}
 use Rattle.lists.specs.Tab.{grid}
 use Rattle.intra4.specs.Code.{filled}
 use Rattle.intra4.proofs.fills.put.Goals as goal
 
--- `intra4::fills::put` meets its contract, mode by mode. Assumes nothing.
 pub returns-in-0 : goal.returns-in-0
 unfolding filled
 returns-in-0 c = rw c.in-0.is c.put_vertical.ensures

@@ -1,9 +1,7 @@
 use mathlib.Core.Path.{refl}
-use Prim.Native.Nat.{ℕ, ◌-◌}
 use native.Mathlib.Omega.{arith}
-use borrow.Author.Rules.{rules}
 use Rattle.lists.specs.Tab.{grid}
-use Rattle.lists.proofs.Tab.{Filling, filling_none, filling_more, filling_done}
+use Rattle.lists.proofs.Tab.{filling_none, filling_more, filling_done}
 use Rattle.intra4.proofs.fills.put_dc.Goals as goal
 
 pub loop-k-init : goal.loop-k-init

@@ -1,12 +1,10 @@
+-- `intra4::fills::put_horizontal_down` meets its contract: two loops that store the rule in raster order. Assumes nothing.
 use Prim.Native.Nat.{◌-◌}
-use native.Mathlib.Omega.{arith}
-use borrow.Author.Rules.{rules}
-use Rattle.lists.proofs.Tab.{Squaring, squaring_none, squaring_more, squaring_row, squaring_done}
+use Rattle.lists.proofs.Tab.{Squaring}
 use Rattle.intra4.specs.Rules.{horizontal_down}
 use Rattle.intra4.specs.Code.{with_corner}
 use Rattle.intra4.proofs.fills.put_horizontal_down.Given as goal
 
--- `intra4::fills::put_horizontal_down` meets its contract: two loops that store the rule in raster order. Assumes nothing.
 abbrev pub invariant-loop-x : goal.invariant-loop-x
 invariant-loop-x l = Squaring 4 (horizontal_down (with_corner l.t) (with_corner l.s)) l.out l.y l.x
 

@@ -1,9 +1,8 @@
+-- `intra4::inner::fill` meets its contract: the rows hold what the mask leaves. Assumes nothing.
 use native.Mathlib.Omega.{arith}
-use borrow.Author.Rules.{rules}
 use Rattle.intra4.proofs.Masked.{filled_is, mode_below_9}
 use Rattle.intra4.proofs.inner.fill.Goals as goal
 
--- `intra4::inner::fill` meets its contract: the rows hold what the mask leaves. Assumes nothing.
 pub put-requires : goal.put-requires
 put-requires c = omega (arith, mode_below_9 _ _ c.requires.1)
 

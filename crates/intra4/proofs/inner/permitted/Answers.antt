@@ -3,9 +3,7 @@ use mathlib.Core.Path.{sym}
 use mathlib.Core.Bool.{true, false}
 use mathlib.Core.List.{[], ◌∷◌}
 use native.Mathlib.Omega.{arith}
-use borrow.Author.Rules.{rules}
 use lib.ListN.{get_or-eq_default}
-use Rattle.lists.proofs.Keys.{at_least}
 use Rattle.intra4.specs.Samples.{bit_of, all_present}
 use Rattle.intra4.specs.Rules.{permitted}
 use Rattle.intra4.proofs.inner.permitted.Goals as goal

@@ -4,7 +4,7 @@ use mathlib.Core.Path.{◌≡◌, ap, ◌∙◌}
 use Prim.Native.Nat.{ℕ, ◌+◌, ◌-◌, ◌*◌, ◌<◌}
 use native.Mathlib.Omega.{arith}
 use borrow.Author.Rules.{rules}
-use lib.ListN.{length, take, drop, length-take, length-drop}
+use lib.ListN.{take, drop}
 use Rattle.intra4.proofs.Area.{picked, picked_mode}
 use Rattle.intra4.proofs.Exact.{vertical_picked, horizontal_picked}
 use Rattle.intra4.proofs.inner.pick.Goals as goal
@@ -29,7 +29,7 @@ pub slice_bounds-copy_from_slice-end : goal.slice_bounds-copy_from_slice-end
 slice_bounds-copy_from_slice-end c =
     let r = c.resolve-rows.ensures in
     let m : c.best-best.result.mode < 9 =
-        picked_mode c.args.neighbours.now _ c.args.samples.now c.requires.0 r.0 r.1 c.put_all.ensures c.best-best.ensures in
+    picked_mode c.args.neighbours.now _ c.args.samples.now c.requires.0 r.0 r.1 c.put_all.ensures c.best-best.ensures in
     search rules
 
 -- neither fits

@@ -1,15 +1,14 @@
+-- `intra4::rules::down_left` meets its contract: x + y is 6 at (3,3) only. Assumes nothing.
 use mathlib.Core.Path.{◌≡◌}
 use mathlib.Core.Bool.{false, ◌&&◌}
 use Prim.Native.Nat.{◌+◌}
 use native.Mathlib.Omega.{arith}
 use borrow.Author.Tests.{eq-eqb}
-use borrow.Author.Rules.{rules}
 use lib.Dec.{eqb}
 use Rattle.intra4.specs.Rules.{down_left}
 use Rattle.intra4.proofs.Places.{corner_only, past_at}
 use Rattle.intra4.proofs.rules.down_left.Goals as goal
 
--- `intra4::rules::down_left` meets its contract: x + y is 6 at (3,3) only. Assumes nothing.
 pub returns-in-6 : goal.returns-in-6
 unfolding down_left
 returns-in-6 c =

@@ -2,6 +2,7 @@
 use mathlib.Core.Path.{◌≡◌}
 use Prim.Native.Nat.{◌+◌, ◌*◌, ◌/◌, ◌%◌}
 use native.Mathlib.Omega.{arith}
+use borrow.Author.Rules.{rules}
 use borrow.Author.Tests.{lt-ltb, le-ltb, eq-eqb, ne_eqb}
 use Rattle.intra4.specs.Rules.{horizontal_up}
 use Rattle.intra4.proofs.Places.{past_at, low_even, low_odd, high}
@@ -34,5 +35,4 @@ pub returns-in_default : goal.returns-in_default
 unfolding horizontal_up
 returns-in_default c =
     let a = c.args in
-    let n = c.in_default.in_default-own.rest in
-    simp (lt-ltb 5 (a.x + 2 * a.y) (high (a.x + 2 * a.y) n.0.0.1 n.0.1 n.1), past_at)
+    simp (lt-ltb 5 (a.x + 2 * a.y) (high (a.x + 2 * a.y) (search rules) (search rules) (search rules)), past_at)

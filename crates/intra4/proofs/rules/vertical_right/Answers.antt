@@ -1,6 +1,7 @@
 -- `intra4::rules::vertical_right` meets its contract, by z. Assumes nothing.
 use Prim.Native.Nat.{◌-◌, ◌*◌, ◌/◌, ◌%◌}
 use native.Mathlib.Omega.{arith}
+use borrow.Author.Rules.{rules}
 use borrow.Author.Tests.{eq-eqb, ne_eqb}
 use Rattle.intra4.specs.Rules.{vertical_right}
 use Rattle.intra4.proofs.Places.{past_at, corner_at, two_back, three_back, three_down, z_positive, z_minus_one, z_below, odd_z, even_z}
@@ -35,7 +36,6 @@ pub returns-in_default : goal.returns-in_default
 unfolding vertical_right
 returns-in_default c =
     let a = c.args in
-    let n = c.in_default.in_default-own.rest in
-    let z = even_z a.x a.y (omega arith) (omega arith) n.0.1 n.1 in
+    let z = even_z a.x a.y (omega arith) (omega arith) (search rules) (search rules) in
     let k = two_back a.t.now a.x (a.y / 2) (omega arith) in
     simp (z_positive a.x a.y z.0, eq-eqb ((2 * a.x - a.y) % 2) 0 z.1) (rw (k.0, k.1) c.two.ensures)

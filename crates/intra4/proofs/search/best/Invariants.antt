@@ -1,11 +1,9 @@
+-- `intra4::search::best` meets its contract: a loop that looks at each mode. Assumes nothing.
 use Prim.Native.Nat.{◌-◌}
-use native.Mathlib.Omega.{arith}
-use borrow.Author.Rules.{rules}
-use Rattle.choice.proofs.Looking.{Looking, looking_none, looking_more, looking_done}
+use Rattle.choice.proofs.Looking.{Looking}
 use Rattle.intra4.specs.Code.{area_cost}
 use Rattle.intra4.proofs.search.best.Given as goal
 
--- `intra4::search::best` meets its contract: a loop that looks at each mode. Assumes nothing.
 abbrev pub invariant-loop-mode : goal.invariant-loop-mode
 invariant-loop-mode l = Looking 9 (area_cost l.area l.flags l.samples) l.best l.mode
 

@@ -1,12 +1,11 @@
+-- `intra4::search::consider` meets its contract: what is permitted is weighed by its part of the area. Assumes nothing.
 use mathlib.Core.Path.{◌≡◌, sym, ◌∙◌}
 use Prim.Native.Nat.{◌+◌, ◌*◌, ◌-◌}
 use native.Mathlib.Omega.{arith}
-use borrow.Author.Rules.{rules}
 use lib.ListN.{length, take, drop, length-take, length-drop}
 use Rattle.intra4.proofs.Area.{area_looked, area_passed}
 use Rattle.intra4.proofs.search.consider.Goals as goal
 
--- `intra4::search::consider` meets its contract: what is permitted is weighed by its part of the area. Assumes nothing.
 pub returns-then-permitted : goal.returns-then-permitted
 returns-then-permitted c =
     let a = c.args in

@@ -1,5 +1,6 @@
-use borrow.Author.Rules.{rules}
-use Rattle.intra4.proofs.Exact.{forbidden, differs, fits_by, horizontal_ends}
+use mathlib.Core.Path.{ap}
+use mathlib.Core.Bool.{not}
+use Rattle.intra4.proofs.Exact.{differs, fits_by, horizontal_ends}
 use Rattle.intra4.proofs.search.horizontal_fits.Goals as goal
 
 pub returns-then-samples-s : goal.returns-then-samples-s
@@ -10,4 +11,4 @@ returns-then-samples-s-2 c = differs _ _ _ _ _ 15 (horizontal_ends _ _ _).1 c.if
 
 pub returns : goal.returns
 returns c =
-    fits_by _ _ _ _ _ c.requires c.permitted.ensures c.if-not-permitted.false-raw c.put.ensures c.sad.ensures.0
+    fits_by _ _ _ _ _ c.requires c.permitted.ensures (ap not c.if-not-permitted.false) c.put.ensures c.sad.ensures.0

@@ -1,3 +1,5 @@
+-- `whole::inner::clip` meets its contract: each of its three returns is one case of the definition.
+-- Assumes nothing.
 use mathlib.Core.Path.{◌≡◌, sym, ap, ◌∙◌}
 use mathlib.Core.Bool.{false}
 use native.Mathlib.Omega.{arith}
@@ -11,8 +13,6 @@ use Rattle.whole.proofs.Order.{plain_lt, lt_both, clip_low, clip_high, clip_same
 use Rattle.whole.proofs.inner.clip.Goals as goal
 use Rattle.whole.proofs.inner.clip.Goals.{Else-high-z, Else-z-lt0, Start}
 
--- `whole::inner::clip` meets its contract: each of its three returns is one case of the definition.
--- Assumes nothing.
 -- the second test, of the numbers themselves
 high-test : (s : Start) → lt_z (pos s.args.high) s.args.z ≡ lt_z (to_z w32 (of_z w32 (pos s.args.high))) (to_z w32 (of_z w32 s.args.z))
 high-test s = sym (lt_both w32 (pos s.args.high) s.args.z (record { sfits = omega (arith, s.ranges.high) }) s.ranges.z)

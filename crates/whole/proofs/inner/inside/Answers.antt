@@ -1,3 +1,5 @@
+-- `whole::inner::inside` meets its contract: its two tests are the definition's.
+-- Assumes nothing.
 use mathlib.Core.Path.{◌≡◌, sym, ap, ◌∙◌}
 use mathlib.Core.Bool.{Bool, ◌&&◌}
 use lib.Signed.{le_z}
@@ -8,8 +10,6 @@ use Rattle.whole.proofs.Order.{le_both}
 use Rattle.whole.proofs.inner.inside.Goals as goal
 use Rattle.whole.proofs.inner.inside.Goals.{Start}
 
--- `whole::inner::inside` meets its contract: its two tests are the definition's.
--- Assumes nothing.
 -- by the first test
 by-low : (s : Start) {b : Bool} → le_z (to_z w32 (of_z w32 s.args.low)) (to_z w32 (of_z w32 s.args.z)) ≡ b
     → (b && le_z s.args.z s.args.high) ≡ inside s.args.low s.args.high s.args.z
