@@ -1,15 +1,16 @@
 # Reads docs/STAMP.md and asks of everything in backquotes there whether it exists. How it is written:
 #   `crate/specs/File`, `crate/proofs/File`   a file; so is `crate/src/file.rt`, and `crates/crate` is a folder
 #   `.ci/name`                                a file, too
-#   `crate::module::function`                 a public function, and `fb_name` an exported one, wherever they stand: in a text, a title or any table, also
-#                                             without backquotes (named_functions)
+#   `crate::module::function`                 a public function, and `fb_name` an exported one or a theorem, wherever they stand: in a text, a title or any
+#                                             table, also without backquotes (named_functions); in backquotes a theorem is held as any
 #   `Name` in `crate/specs/File`              a definition that stands in that file, also with arguments; `Name` there: in the file before it;
 #                                             in a column "definition" a name with no file stands in the function's own crate
 #   (`edit`), (`edit` in `crate`)             in a table of functions: a must-fail edit of the function's own crate, or of that crate
 #   witness `name`, witnesses `a`, `b`        a theorem of the line's own crate
-#   `some-NAME-name`                          in a table of theorems: one for each exported function
-#   `some-name`                               a theorem: in the file behind it, `some-name` (`crate/proofs/File`), else wherever it stands
-#   `some_name` elsewhere                     a function, or a must-fail edit of the line's own crate, or of `crate` in `some_name` in `crate`
+#   `some_NAME_name`                          in a table of theorems: one for each exported function
+#   `some_name` elsewhere                     what it is goes by what there is: a must-fail edit of the line's own crate, or of `crate` in `some_name` in `crate`;
+#                                             a function; else a theorem, in the file behind it, `some_name` (`crate/proofs/File`), or else
+#                                             wherever it stands; else a definition
 # An exception says why, in more than a word. A table begins with the titles of its kind, so that no row is taken for them. No line is hidden in a
 # comment, and every backquote has its other one: else what is cited would be read otherwise than it is shown.
 # Any other name must be declared somewhere. Names that stand in one clause, up to a `;` or the end of their brackets, share the file or the
@@ -33,7 +34,7 @@ function cite(kind, name, crates, file,  word, n, k) {
     }
     else if (kind == "function or edit") {
         if (has_edit(name, crates)) { cite_edit(name, crates) }
-        else if (!(name in any_function)) { wrong(name " is no function, and no must-fail edit of " of_where(crates, "must-fail")) }
+        else if (!(name in any_function) && !((name in defined) && !(name in edit_name))) { wrong(name " is no function, and no must-fail edit of " of_where(crates, "must-fail")) }
     }
     else if (!(name in known)) { wrong(name " is declared nowhere") }
 }
@@ -85,7 +86,7 @@ function named_functions(line,  name) {
     }
     while (match(line, /(^|[^A-Za-z0-9_-])fb_[A-Za-z0-9_]*/)) {
         name = substr(line, RSTART, RLENGTH); sub(/^.*fb_/, "fb_", name)
-        if (!(name in exported)) { wrong(name " is no exported function") }
+        if (!(name in exported) && !(name in theorem) && name !~ /NAME/) { wrong(name " is no exported function") }
         line = substr(line, RSTART + RLENGTH)
     }
 }
@@ -148,7 +149,7 @@ function named_in(name, before, mode,  crate, file) {
         if (!((crate, file) in file_of)) { wrong("there is no crates/" name (name ~ /\.rt$/ ? "" : ".antt")) }
         there_crate = crate; there_file = file
         if (before ~ /(^| )in $/) { bind(crate, file, deep) } else if (before ~ /\($/) { bind(crate, file, deep - 1) }
-    } else if (name ~ /::/ || name ~ /^fb_/) {
+    } else if (name ~ /::/ || name in exported) {
         return
     } else if (waiting > 0 && wait_deep[waiting] == deep && before ~ /(^| )(in|of) $/ && name in listed) {
         bind(name, "", deep)
@@ -163,11 +164,14 @@ function named_in(name, before, mode,  crate, file) {
 
 function kind_of(name, before, mode) {
     if (witnessed) { return "witness" }
-    if (name ~ /^[a-z0-9]+(-[a-z0-9]+)+$/) { return "theorem" }
-    if (mode == "ruled out" || (mode == "definition" && deep > 0)) { return "edit" }
-    if (mode == "definition") { return before ~ /the kit's $/ ? "word" : "definition" }
-    return name ~ /^[a-z0-9]+(_[a-z0-9]+)+$/ ? "function or edit" : "word"
+    if (mode == "ruled out" || (mode == "definition" && deep > 0)) { return is_theorem(name) && !(name in edit_name) ? "theorem" : "edit" }
+    if (mode == "definition") { return before ~ /the kit's $/ ? "word" : is_theorem(name) && !(name in defined) ? "theorem" : "definition" }
+    if (name !~ /^[a-z0-9]+(_[a-z0-9]+)+$/) { return "word" }
+    return name in edit_name || name in any_function ? "function or edit" : is_theorem(name) ? "theorem" : name in defined ? "word" : "function or edit"
 }
+
+# a theorem's name has several words
+function is_theorem(name) { return name in theorem && name ~ /_/ }
 
 # ---- the lines
 
@@ -256,7 +260,7 @@ function split_names(text, name,  part, n, k, m, function_name, one) {
     for (k = 2; k <= n; k += 2) {
         if (part[k] !~ /NAME/) { name[++m] = part[k]; continue }
         for (function_name in exported) {
-            one = function_name; sub(/^fb_/, "", one); gsub(/_/, "-", one)
+            one = function_name; sub(/^fb_/, "", one)
             name[++m] = part[k]; sub(/NAME/, one, name[m])
         }
     }

@@ -1,5 +1,5 @@
 # Holds crates/stamp to the exported functions, so that no claim there is hollow. With antt.awk; reads what source.awk tells, as `-`, then
-# crates/stamp/specs/*.antt, then crates/stamp/proofs/*.antt.
+# crates/turned/specs/Calls.antt, crates/stamp/specs/*.antt, then crates/stamp/proofs/*.antt.
 #   A table of claims is an `abbrev pub T : D → Type 0` whose D is a `data` of stamp/specs; every `data` with Claim in its name has one. Behind it stands
 #   in the file of the same name in stamp/proofs, under no assumption and word for word, `pub NAME : (k : D) → T k`, and D and T are there what they are
 #   in stamp/specs. `sisters` has the names of those that docs/STAMP.md tells of; a table that is added must have one too, of any name.
@@ -16,18 +16,19 @@ function complain(text) {
 
 BEGIN {
     FS = "\t"
-    sisters["Demand1"] = "demand-1"; sisters["Demand2"] = "demand-2"; sisters["Demand3"] = "demand-3"
-    sisters["Unseen"] = "unseen-has-no-value"; sisters["Useless"] = "useless-shut-out"; sisters["Request"] = "requests"
-    split("function Contents contentsOf testsOf madeOf", of_functions, " ")
-    fields["Call"] = "(n : ℕ) (ps : List (PK n)) (r : RK n) (P : Out n ps r) : Type 0 where; pub lifetimes : Lfts n; pub given : Dens lifetimes ps" \
-        "; pub word : resT r lifetimes .Denot; pub exit : AtExit (endedOf n ps r) lifetimes; pub learnt : P lifetimes given word exit"
-    fields["CallOf"] = "(f : Exported) : Type 0 where; pub call : Call (function f .0) (function f .1) (rNum w64) (function f .2)"
+    sisters["Demand1"] = "demand_1"; sisters["Demand2"] = "demand_2"; sisters["Demand3"] = "demand_3"
+    sisters["Unseen"] = "unseen_has_no_value"; sisters["Useless"] = "useless_shut_out"; sisters["Request"] = "requests"
+    split("function Contents contents_of tests_of made_of", of_functions, " ")
+    fields["Call"] = "(n : ℕ) (ps : List (ParamKind n)) (r : ResultKind n) (P : Out n ps r) : Type 0 where; pub lifetimes : Lfts n; pub given : Dens lifetimes ps" \
+        "; pub word : (res_t r lifetimes).Denot; pub exit : AtExit (ended_of n ps r) lifetimes; pub learnt : P lifetimes given word exit"
+    fields["CallOf"] = "(f : Exported) : Type 0 where; pub call : Call (function f).0 (function f).1 (r_num w64) (function f).2"
 }
 
 FILENAME == "-" {
     if ($1 == "function" && $6 == "exported") {
-        name = $4; gsub(/_/, "-", name)
-        exported[name] = ($3 == "-" ? "" : $3 ".") $4; home[name] = $2
+        # the library's function of that name, which hold.awk holds the export to
+        name = $4
+        exported[name] = ($3 == "-" ? "" : $3 ".") $4; home[name] = $2; sub(/_c$/, "", home[name])
     }
     next
 }
@@ -36,12 +37,14 @@ FNR == 1 {
     close_statement()
     in_comment = 0; open = ""; body = ""
     file = FILENAME; sub(/^.*\//, "", file); sub(/\.antt$/, "", file)
-    of_specs = FILENAME ~ /\/specs\//
+    of_specs = FILENAME ~ /\/specs\//; of_turned = FILENAME ~ /\/turned\//
 }
 {
     line = bare($0)
     if (line == "") { next }
     match(line, /^ */); indent = RLENGTH
+    # of the file of `turned`, the record of a call alone
+    if (of_turned) { if (indent == 0) { body = "" } if (line ~ /^pub record Call / || body != "") { if (indent == 0) { at_margin(line) } else { further(substr(line, indent + 1)) } } next }
     if (indent == 0) { at_margin(line) } else { further(substr(line, indent + 1)) }
 }
 
@@ -97,11 +100,13 @@ function hold_taken(name, of, what) {
 }
 
 # a name of stamp/specs stands there once, and who takes it takes it of there
-function hold_names(  at, part) {
+function hold_names(  at, part, own) {
     for (at in takes) {
         split(at, part, SUBSEP)
-        if (part[2] in home_of && takes[at] != "Rattle·stamp·specs.specs." home_of[part[2]]) {
-            complain("stamp/specs/" part[1] " takes " part[2] " of " takes[at] ", not of Rattle·stamp·specs.specs." home_of[part[2]])
+        if (!(part[2] in home_of)) { continue }
+        own = (part[2] == "Call" ? "Rattle.turned.specs." : "Rattle.stamp.specs.") home_of[part[2]]
+        if (takes[at] != own) {
+            complain("stamp/specs/" part[1] " takes " part[2] " of " takes[at] ", not of " own)
         }
     }
 }
@@ -127,7 +132,7 @@ function hold_rows(table, data,  k, n, name) {
 function hold_table(table, data,  file, own, name) {
     file = declared[table]
     hold_rows(table, data)
-    own = "Rattle·stamp·specs.specs."
+    own = "Rattle.stamp.specs."
     if (!((file, "(k : " data ") → " table " k") in stated)) {
         if (table in sisters && (file, sisters[table]) in states) {
             complain("stamp/proofs/" file ": " sisters[table] " is not word for word (k : " data ") → " table " k, but " states[file, sisters[table]])
@@ -167,7 +172,7 @@ function hold_functions(  name, k, text, own, first, list) {
         own = "." exported[name]
         if (text !~ /= \([0-9]+, [^ ]+, [^ ]+\)$/ || index(text, ", " first own ".Kinds.ps, " first own ".Reads.Learnt)") == 0) {
             complain("stamp/specs/Calls: function " name " is not its own reading, (n, library" own ".Kinds.ps, library" own ".Reads.Learnt)")
-        } else if (alias["Calls", first] != "Rattle·" home[name] ".proofs") { complain("stamp/specs/Calls: " first " is " alias["Calls", first] ", not Rattle·" home[name] ".proofs") }
+        } else if (alias["Calls", first] != "Rattle." home[name] ".proofs") { complain("stamp/specs/Calls: " first " is " alias["Calls", first] ", not Rattle." home[name] ".proofs") }
     }
     if (home_of["Exported"] != "Calls" || home_of["function"] != "Calls") { complain("stamp/specs/Calls has no Exported or no function") }
     for (name in fields) { if (said[name] != fields[name]) { complain("stamp/specs/Calls: the record " name " is not word for word " fields[name]) } }

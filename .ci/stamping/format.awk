@@ -26,7 +26,7 @@ FILENAME ~ /\/specs\/[A-Za-z0-9]+\.antt$/ {
     if (line == "") { next }
     if (line ~ /^[^ ]/) {
         now_key = ""
-        if (line ~ /^[a-z][A-Za-z0-9]*( .*)? =( |$)/) {
+        if (line ~ /^[a-z][A-Za-z0-9_]*( .*)? =( |$)/) {
             name = line; sub(/ .*/, "", name)
             now_key = crate " " name; now_row = ++rows_of[now_key]
             match(line, / =( |$)/)
@@ -175,12 +175,12 @@ function sentence(name, text) {
 # ---- refusals: numbers by name, and of a refusal in a definition its number and its place as the page writes it
 
 function read_numbers(  k, name, key) {
-    key = "refusal numberOf"
+    key = "refusal number_of"
     for (k = 1; k <= rows_of[key]; k++) {
-        name = lhs[key, k]; sub(/^numberOf \(?/, "", name); sub(/[ )].*/, "", name)
+        name = lhs[key, k]; sub(/^number_of \(?/, "", name); sub(/[ )].*/, "", name)
         number[toupper(name)] = rhs[key, k] + 0; refusals++
         if (rhs[key, k] + 0 > highest_number) { highest_number = rhs[key, k] + 0 }
-        if (row("refusal placeOf", "placeOf " name) == "0") { no_place[name] = 1 }
+        if (row("refusal place_of", "place_of " name) == "0") { no_place[name] = 1 }
     }
     if (refusals == 0) { complain("refusal/specs/Number has no numbers") }
 }
@@ -188,9 +188,9 @@ function read_numbers(  k, name, key) {
 # the sides of the page: where a record or a head begins (`place`), how long it is, how long the file
 function refusal_cells(text, place, long,  name, at, kind, key) {
     gsub(/[()]/, "", text)
-    if (text ~ /^refusalOf /) {
+    if (text ~ /^refusal_of /) {
         split(text, kind, " ")
-        text = row("refusal refusalOf", "refusalOf " kind[2]); gsub(/[()]/, "", text)
+        text = row("refusal refusal_of", "refusal_of " kind[2]); gsub(/[()]/, "", text)
     }
     sub(/^refusal\./, "", text)
     name = text; sub(/ .*/, "", name); at = name in no_place ? "0" : trimmed(substr(text, length(name) + 1))
@@ -201,10 +201,10 @@ function refusal_cells(text, place, long,  name, at, kind, key) {
     return number[toupper(name)] " | " at
 }
 
-# the cells of a chain of tests, in their order, in `cell`; those of a test by name, as quantizerTest, are that definition's, with its place
+# the cells of a chain of tests, in their order, in `cell`; those of a test by name, as quantizer_test, are that definition's, with its place
 function cells_of(text, place, long, cell,  n, one, at, inner, key, rest, steps) {
     n = 0
-    while (steps++ < 100 && match(text, /(refusal\.[A-Z][a-z]+( \([^()]*\)| [a-z0-9]+)?|refusalOf [A-Z][A-Za-z]*|[a-z][A-Za-z]*(Test|Ranges) (\([^()]*\)|[a-z0-9]+))/)) {
+    while (steps++ < 100 && match(text, /(refusal\.[A-Z][a-z]+( \([^()]*\)| [a-z0-9]+)?|refusal_of [A-Z][A-Za-z]*|[a-z][a-z0-9_]*_(test|ranges) (\([^()]*\)|[a-z0-9]+))/)) {
         one = substr(text, RSTART, RLENGTH); rest = substr(text, RSTART + RLENGTH)
         if (one ~ /^refusal/) { cell[++n] = refusal_cells(one, place, long); text = rest; continue }
         key = one; sub(/ .*/, "", key); at = substr(one, length(key) + 2)
@@ -236,21 +236,21 @@ function tests(name, index_in_section, words, title, first, text, place, long, w
 
 function hold_sizes(  n, one, k, most, luma, chroma, longest, count_max) {
     most = behind("head dimension", "leb n ")
-    luma = behind("frame planesTests", "planeLength "); chroma = behind("frame planesTests", "luma ∷ lengthTest (planeLength ")
+    luma = behind("frame planes_tests", "plane_length "); chroma = behind("frame planes_tests", "luma ∷ length_test (plane_length ")
     count_max = most * most; longest = 0; n = 0
-    for (k = kinds; k >= 1; k--) { if (kind[k] != "inChroma") { if (long_of[kind[k]] > longest) { longest = long_of[kind[k]] } } }
+    for (k = kinds; k >= 1; k--) { if (kind[k] != "in_chroma") { if (long_of[kind[k]] > longest) { longest = long_of[kind[k]] } } }
     table("Sizes", 1, "the sizes")
     want("| of a picture of w by h macroblocks | bytes | at most, " luma * most " by " luma * most " |")
     want("| the luma plane | " luma * luma " w h | " thousands(luma * luma * count_max) " |")
     want("| each chroma plane | " chroma * chroma " w h | " thousands(chroma * chroma * count_max) " |")
     want("| the file, mono | at most " new_long " + " longest " w h | " thousands(old_long + longest * count_max) " in one slice |")
-    want("| the file, colour | at most " new_long " + " longest + long_of["inChroma"] " w h | " thousands(old_long + (longest + long_of["inChroma"]) * count_max) " in one slice |")
+    want("| the file, colour | at most " new_long " + " longest + long_of["in_chroma"] " w h | " thousands(old_long + (longest + long_of["in_chroma"]) * count_max) " in one slice |")
     end_table()
-    for (k = 1; k <= kinds; k++) { if (kind[k] != "inChroma") { one[++n] = long_of[kind[k]] } }
+    for (k = 1; k <= kinds; k++) { if (kind[k] != "in_chroma") { one[++n] = long_of[kind[k]] } }
     sort_numbers(one, n)
-    sentence("Sizes", luma * luma " luma samples take " joined(one, n, "or") " bytes, and their " 2 * chroma * chroma " chroma samples " long_of["inChroma"] ".")
+    sentence("Sizes", luma * luma " luma samples take " joined(one, n, "or") " bytes, and their " 2 * chroma * chroma " chroma samples " long_of["in_chroma"] ".")
     sentence("Sizes", luma " by " luma " luma samples, 1 to " most " each: so " luma " to " luma * most " samples a side, in steps of " luma ".")
-    sentence("Bytes", "behind its first record are " mark(field("record inChroma", "mark")) ".")
+    sentence("Bytes", "behind its first record are " mark(field("record in_chroma", "mark")) ".")
     sentence("Rebuilding", "Macroblock m begins in luma at column " luma " (m mod w) and row " luma " (m / w), in chroma at " chroma " (m mod w) and " chroma " (m / w).")
 }
 
@@ -262,19 +262,19 @@ function sort_numbers(one, n,  i, k, x) {
 function head_fields(key, one,  text, n, k) {
     text = says(key); sub(/^summed \(/, "", text); sub(/\)$/, "", text)
     n = split(text, one, " \\+\\+ ")
-    for (k = 1; k <= n; k++) { if (!sub(/^bytesOf /, "", one[k])) { complain("format.awk: " key " has a field of another kind: " one[k]) } }
+    for (k = 1; k <= n; k++) { if (!sub(/^bytes_of /, "", one[k])) { complain("format.awk: " key " has a field of another kind: " one[k]) } }
     one[n + 1] = "sum"
     return n + 1
 }
 
 function head_word(name, first) {
-    if (name ~ /Mark$/) { return "mark " mark(value(says("head " name))) }
+    if (name ~ /_mark$/) { return "mark " mark(value(says("head " name))) }
     if (name == "width") { return first ? "width w, in macroblocks" : "width w" }
     return name == "height" ? "height h" : name == "rows" ? "rows n of a slice" : name
 }
 
 function hold_head(  old, new, n, m, k, sum, text) {
-    n = head_fields("head oldHead", old); m = head_fields("head newHead", new)
+    n = head_fields("head old_head", old); m = head_fields("head new_head", new)
     if (2 * n != old_long || 2 * m != new_long) { complain("format.awk: a head is not as long as its fields") }
     table("The head", 1, "the head")
     want("| bytes | one slice, " old_long " bytes | slices, " new_long " bytes |")
@@ -292,15 +292,15 @@ function read_kinds(  k, text, name, at) {
     kinds = split(says("record kinds"), kind, " ∷ ")
     if (kind[kinds] == "[]") { kinds-- }
     for (k = 1; k <= kinds; k++) { long_of[kind[k]] = field("record " kind[k], "front") + 2 * field("record " kind[k], "levels") + 2 }
-    has("record lengthOf", "kind .front + 2 * kind .levels + 2"); has("record frontWith", "bytesOf (kind .mark) ++ bytesOf number ++ more")
-    has("record recordWith", "summed (frontWith kind number more ++ levelBytes levels)")
+    has("record length_of", "kind.front + 2 * kind.levels + 2"); has("record front_with", "bytes_of kind.mark ++ bytes_of number ++ more")
+    has("record record_with", "summed (front_with kind number more ++ level_bytes levels)")
     for (at in rhs) {
         split(at, text, SUBSEP)
-        if (text[1] ~ /^record / && rhs[at] ~ /^recordWith [a-z][A-Za-z]* number /) { name = rhs[at]; sub(/^recordWith /, "", name); sub(/ .*/, "", name); writes[name] = rhs[at] }
+        if (text[1] ~ /^record / && rhs[at] ~ /^record_with [a-z][a-z_]* number /) { name = rhs[at]; sub(/^record_with /, "", name); sub(/ .*/, "", name); writes[name] = rhs[at] }
     }
-    title["inFours"] = "The luma record of sixteen blocks"
-    title["inWhole"] = "The luma record of a macroblock predicted as a whole"
-    title["inChroma"] = "The chroma record"
+    title["in_fours"] = "The luma record of sixteen blocks"
+    title["in_whole"] = "The luma record of a macroblock predicted as a whole"
+    title["in_chroma"] = "The chroma record"
 }
 
 # the words of what stands behind the number
@@ -308,8 +308,8 @@ function front_word(item, place, chroma) {
     if (item == "qp") { return "QP" }
     if (item == "mode") { return chroma ? "mode, one for both planes" : "mode" }
     if (item ~ /^packed /) { return "modes: byte " place " + k has the mode of block 2k in its low four bits, that of block 2k + 1 in its high four" }
-    if (item == "signedByte cb") { return "offset of Cb" }
-    if (item == "signedByte cr") { return "offset of Cr" }
+    if (item == "signed_byte cb") { return "offset of Cb" }
+    if (item == "signed_byte cr") { return "offset of Cr" }
     return item
 }
 
@@ -325,7 +325,7 @@ function hold_record(name,  text, item, n, k, place, long, front, levels) {
     for (k = 1; k <= n; k++) {
         if (item[k] == "[]") { continue }
         long = item[k] ~ /^packed / ? substr(item[k], 8) + 0 : 1 # `packed 8 modes` takes 8 bytes
-        want("| " bytes(place, long) " | " front_word(item[k], place, text ~ /signedByte/) " |")
+        want("| " bytes(place, long) " | " front_word(item[k], place, text ~ /signed_byte/) " |")
         place += long
     }
     if (place != front) { complain("format.awk: the record " name " has " place " bytes before its levels, and its kind says " front) }
@@ -334,18 +334,18 @@ function hold_record(name,  text, item, n, k, place, long, front, levels) {
     end_table()
 }
 
-# level i of block b: in fours by `levelIn`; else DC levels, one for each block, and 15 AC levels of each (`acIn`), of one plane or of two
+# level i of block b: in fours by `level_in`; else DC levels, one for each block, and 15 AC levels of each (`ac_in`), of one plane or of two
 function hold_levels(name, front, levels,  per, blocks, planes, ac, from) {
-    if (name == "inFours") {
-        per = behind("record levelIn", "levelWith inFours ("); has("record levelIn", "(" per " * block + k)"); blocks = levels / per
+    if (name == "in_fours") {
+        per = behind("record level_in", "level_with in_fours ("); has("record level_in", "(" per " * block + k)"); blocks = levels / per
         want("| " bytes(front, 2 * levels) " | levels: level i of block b, in zigzag order, at " front " + " 2 * per " b + 2 i, for " \
             (blocks == per ? "b and i from 0 to " per - 1 : "b from 0 to " blocks - 1 " and i from 0 to " per - 1) " |")
         return
     }
-    ac = behind("residual_whole acIn", "take "); has("residual_whole acIn", "drop (blocksOf s + " ac " * b) levels"); has("residual_whole blocksOf", "s * s / 16")
-    planes = name == "inChroma" ? 2 : 1
+    ac = behind("residual_whole ac_in", "take "); has("residual_whole ac_in", "drop (blocks_of s + " ac " * b) levels"); has("residual_whole blocks_of", "s * s / 16")
+    planes = name == "in_chroma" ? 2 : 1
     blocks = levels / planes / (ac + 1)
-    if (planes == 2) { has("macroblock_chroma cbLevelsIn", "take " levels / 2 " (allLevelsIn inChroma part)"); has("macroblock_chroma crLevelsIn", "drop " levels / 2 " (allLevelsIn inChroma part)") }
+    if (planes == 2) { has("macroblock_chroma cb_levels_in", "take " levels / 2 " (all_levels_in in_chroma part)"); has("macroblock_chroma cr_levels_in", "drop " levels / 2 " (all_levels_in in_chroma part)") }
     want("| " bytes(front, 2 * blocks) " | " blocks " DC levels" (planes == 2 ? " of Cb, by rows" : ", in zigzag order") ": level i at " front " + 2 i |")
     from = front + 2 * blocks
     want("| " bytes(from, 2 * ac * blocks) " | AC levels" (planes == 2 ? " of Cb" : "") ": level i of block b, in zigzag order, at " from " + " 2 * ac " b + 2 (i - 1), for b from 0 to " blocks - 1 " and i from 1 to " ac " |")
@@ -447,53 +447,53 @@ function hold_numbers(  k, cell, last, name, words, id) {
 
 # the marks of the kinds of luma, as they are told
 function luma_marks(  k, n, one) {
-    for (k = 1; k <= kinds; k++) { if (kind[k] != "inChroma") { one[++n] = mark(field("record " kind[k], "mark")) } }
+    for (k = 1; k <= kinds; k++) { if (kind[k] != "in_chroma") { one[++n] = mark(field("record " kind[k], "mark")) } }
     return joined(one, n, "or")
 }
 
 function hold_tests(  w, id, wide, row_at, k, n, one, name) {
     id = "Tests and refusals"; wide = "outside -" wide_low ".." wide_high
     sentence(id, "**The head.** L is " old_long " or " new_long ", by the mark.")
-    w[1] = "the file has fewer than " behind("head headTests", "test (leb ") " bytes"
+    w[1] = "the file has fewer than " behind("head head_tests", "test (leb ") " bytes"
     w[2] = "its mark is neither " mark(old_mark) " nor " mark(new_mark)
     w[3] = "the file has fewer than L bytes"
     w[4] = "the sum of the head is wrong"
     w[5] = "width or height is " behind("head dimension", "leb ") - 1 " or above " behind("head dimension", "leb n ")
-    w[6] = "the rows n are " behind("head rowsHold", "leb ") - 1 " or above the height"
-    has("head rowsHold", "leb rows height"); has("head isHead", "eqb mark oldMark || eqb mark newMark")
-    tests(id, 2, "the tests of the head", "refused if", 1, says("head headTests"), "0", "L", w, 6); row_at = 7
+    w[6] = "the rows n are " behind("head rows_hold", "leb ") - 1 " or above the height"
+    has("head rows_hold", "leb rows height"); has("head is_head", "eqb mark old_mark || eqb mark new_mark")
+    tests(id, 2, "the tests of the head", "refused if", 1, says("head head_tests"), "0", "L", w, 6); row_at = 7
     w[1] = "a plane has another length than above; where three are lent, this is asked of the chroma planes of a mono file too"
-    tests(id, 3, "the test of the planes", "refused if", row_at, "refusal." says_refusal("refusal lengthTest"), "0", "", w, 1); row_at += 1
-    w[1] = "fewer than " behind("record formTests", "test (leb ") " bytes are left"
-    w[2] = "the mark is not " luma_marks() " where a luma record, not " mark(field("record inChroma", "mark")) " where a chroma record is to stand"
+    tests(id, 3, "the test of the planes", "refused if", row_at, "refusal." says_refusal("refusal length_test"), "0", "", w, 1); row_at += 1
+    w[1] = "fewer than " behind("record form_tests", "test (leb ") " bytes are left"
+    w[2] = "the mark is not " luma_marks() " where a luma record, not " mark(field("record in_chroma", "mark")) " where a chroma record is to stand"
     w[3] = "fewer than R bytes are left"
     w[4] = "the number is not the macroblock's"
     w[5] = "the sum of the record is wrong"
-    tests(id, 4, "the tests of a record's form", "refused if", row_at, faults(says("record formTests")), "P", "R", w, 5); row_at += 5
+    tests(id, 4, "the tests of a record's form", "refused if", row_at, faults(says("record form_tests")), "P", "R", w, 5); row_at += 5
     w[1] = "bytes are left"
     tests(id, 5, "the test behind the last record", "refused if, behind the last record", row_at, says("record surplus"), "P", "R", w, 1); row_at += 1
     # a luma record has the tests of its kind, and they begin with the same number
     w[1] = "the QP is above " highest
-    w[2] = "the mode of block b, the first of 0 to " behind("macroblock4 contentTests4", "scanTest ") - 1 ", is above " modes_of("intra4") - 1 " or needs what is missing"
-    w[3] = "a rescaled number of block b, the first of 0 to " behind("macroblock4 contentTests4", "scanTest ") - 1 ", is " wide
-    tests(id, 6, "the tests of sixteen blocks", "of sixteen blocks, refused if", row_at, says("macroblock4 contentTests4"), "P", "R", w, 3)
+    w[2] = "the mode of block b, the first of 0 to " behind("macroblock4 content_tests4", "scan_test ") - 1 ", is above " modes_of("intra4") - 1 " or needs what is missing"
+    w[3] = "a rescaled number of block b, the first of 0 to " behind("macroblock4 content_tests4", "scan_test ") - 1 ", is " wide
+    tests(id, 6, "the tests of sixteen blocks", "of sixteen blocks, refused if", row_at, says("macroblock4 content_tests4"), "P", "R", w, 3)
     w[2] = "the mode is above " modes_of("sides") - 1 " or needs what is missing"
     w[3] = "a DC value is " wide
-    w[4] = "a rescaled AC level of block b, the first of 0 to " behind("macroblock16 contentTests16", "scanTest ") - 1 ", is " wide
-    tests(id, 7, "the tests of a macroblock predicted as a whole", "predicted as a whole, refused if", row_at, says("macroblock16 contentTests16"), "P", "R", w, 4); row_at += 4
+    w[4] = "a rescaled AC level of block b, the first of 0 to " behind("macroblock16 content_tests16", "scan_test ") - 1 ", is " wide
+    tests(id, 7, "the tests of a macroblock predicted as a whole", "predicted as a whole, refused if", row_at, says("macroblock16 content_tests16"), "P", "R", w, 4); row_at += 4
     w[1] = "Cb's offset, or else Cr's, is outside -" offset ".." offset
     w[2] = "the mode is above " modes_of("chroma") - 1 " or needs what is missing"
     w[3] = "a DC value or a rescaled AC level of Cb, or else of Cr, is " wide
-    tests(id, 8, "the tests of chroma", "of chroma, P being the record's first byte; refused if", row_at, says("macroblock_chroma contentTestsChroma"), "P", "R", w, 3)
+    tests(id, 8, "the tests of chroma", "of chroma, P being the record's first byte; refused if", row_at, says("macroblock_chroma content_tests_chroma"), "P", "R", w, 3)
     n = 0
-    for (k = 1; k <= rows_of["refusal isContent"]; k++) {
-        if (rhs["refusal isContent", k] != "true") { continue }
-        name = lhs["refusal isContent", k]; sub(/^isContent \(?refusal\./, "", name); sub(/[ )].*/, "", name)
+    for (k = 1; k <= rows_of["refusal is_content"]; k++) {
+        if (rhs["refusal is_content", k] != "true") { continue }
+        name = lhs["refusal is_content", k]; sub(/^is_content \(?refusal\./, "", name); sub(/[ )].*/, "", name)
         one[++n] = number[toupper(name)]
     }
     sort_numbers(one, n)
     sentence(id, "So the place of " joined(one, n, "and") " is a block of the picture")
-    has("inspection differAt", "place / 256"); has("inspection differsTest", "Differs")
+    has("inspection differ_at", "place / 256"); has("inspection differs_test", "Differs")
     sentence(id, "it refuses with " number["DIFFERS"] ", place 256 m + s")
     n = 0; split("", one)
     for (k = 1; k < 100; k++) { if (k in range_test) { one[++n] = k } }
@@ -510,7 +510,7 @@ function says_refusal(key,  text) {
 function faults(text,  out) {
     out = ""
     while (match(text, /\) (CutMark|Mark|CutRest|Number|Sum) ∷/)) {
-        out = out " refusalOf " substr(text, RSTART + 2, RLENGTH - 6)
+        out = out " refusal_of " substr(text, RSTART + 2, RLENGTH - 6)
         text = substr(text, RSTART + RLENGTH)
     }
     return out
@@ -520,7 +520,7 @@ function modes_of(crate,  one, n) { n = split(says(crate " modes"), one, " ∷ "
 
 # blocks in their order, and of which the samples at the upper right are present
 function hold_blocks(  b, v, u, n, line, place, group, other, one) {
-    split(listed(says("picture blockTable")), b, ", ")
+    split(listed(says("picture block_table")), b, ", ")
     table("Rebuilding", 1, "the order of blocks")
     want("| | | | | | | |")
     for (v = 0; v < 4; v++) {
@@ -583,15 +583,15 @@ function sample(one,  side, at) {
 function rule_cell(name,  t, n, key) {
     key = "intra4 " name; n = terms(key, t)
     if (name == "vertical" || name == "horizontal") { return t[1] }
-    if (name == "downLeft") { has(key, "cond (eqb x 3 && eqb y 3)"); return t[2] "; at 3, 3: " t[1] }
-    if (name == "downRight") { has(key, "cond (ltb y x)"); has(key, "(cond (ltb x y)"); return "x > y: " t[1] "; x < y: " t[2] "; x = y: " t[3] }
-    if (name == "verticalRight") {
-        has(key, "let z = pos (2 * x) -ℤ pos y in let h = y / 2 in byZ z"); has("intra4 byZ", "cond (eqb (z % 2) 0) even odd")
+    if (name == "down_left") { has(key, "cond (eqb x 3 && eqb y 3)"); return t[2] "; at 3, 3: " t[1] }
+    if (name == "down_right") { has(key, "cond (ltb y x)"); has(key, "(cond (ltb x y)"); return "x > y: " t[1] "; x < y: " t[2] "; x = y: " t[3] }
+    if (name == "vertical_right") {
+        has(key, "let z = pos (2 * x) -ℤ pos y in let h = y / 2 in by_z z"); has("intra4 by_z", "cond (eqb (z % 2) 0) even odd")
         return "z = 2x - y, g = y / 2. z even and not negative: " t[1] "; z odd and positive: " t[2] "; z = -1: " t[3] "; z = -2 or -3: " t[4]
     }
-    if (name == "horizontalDown") { has(key, "verticalRight S T y x"); return "mode 5 with x and y exchanged, and T and S" }
-    if (name == "verticalLeft") { has(key, "let h = y / 2 in cond (eqb (y % 2) 0)"); return "g = y / 2. y even: " t[1] "; y odd: " t[2] }
-    if (name == "horizontalUp") {
+    if (name == "horizontal_down") { has(key, "vertical_right S T y x"); return "mode 5 with x and y exchanged, and T and S" }
+    if (name == "vertical_left") { has(key, "let h = y / 2 in cond (eqb (y % 2) 0)"); return "g = y / 2. y even: " t[1] "; y odd: " t[2] }
+    if (name == "horizontal_up") {
         has(key, "let z = x + 2 * y in let h = x / 2 in cond (ltb 5 z)"); has(key, "(cond (eqb z 5)"); has(key, "(cond (eqb (z % 2) 0)")
         return "z = x + 2y, g = x / 2. z = 0, 2, 4: " t[3] "; z = 1, 3: " t[4] "; z = 5: " t[2] "; z above 5: " t[1]
     }
@@ -617,12 +617,12 @@ function rules_of(crate, rule,  one, n, k) {
 
 function hold_modes(  rule, n, k, need, one, i, luma, chroma, m, words, cells) {
     n = rules_of("intra4", rule)
-    one = says("intra4 permitted"); sub(/.*getD \(/, "", one); sub(/ ∷ \[\]\).*/, "", one); split(one, need, " ∷ ")
-    has("intra4 permitted", "let A-D = bitOf f 0 in let I-L = bitOf f 1 in let all = allPresent f in")
+    one = says("intra4 permitted"); sub(/.*get_or \(/, "", one); sub(/ ∷ \[\]\).*/, "", one); split(one, need, " ∷ ")
+    has("intra4 permitted", "let A_D = bit_of f 0 in let I_L = bit_of f 1 in let all = all_present f in")
     table("Prediction of a 4x4 block", 1, "the modes of a 4x4 block")
     want("| mode | needs | sample at x, y |")
     for (k = 0; k < n; k++) {
-        words = need[k + 1] == "true" ? "nothing" : need[k + 1] == "all" ? "A-D, I-L, M" : need[k + 1]
+        words = need[k + 1] == "true" ? "nothing" : need[k + 1] == "all" ? "A-D, I-L, M" : need[k + 1]; sub(/_/, "-", words)
         want("| " k " | " words " | " (rule[k] == "DC" ? mean_cell(4) : rule_cell(rule[k])) " |")
     }
     end_table()
@@ -642,19 +642,19 @@ function hold_modes(  rule, n, k, need, one, i, luma, chroma, m, words, cells) {
 
 function hold_levels_to_samples(  v, r, n, name, from) {
     name = "From levels to samples"
-    n = split(listed(says("quantizer vTable")), v, ", ")
+    n = split(listed(says("quantizer v_table")), v, ", ")
     table(name, 1, "V")
     want("| r | V a | V b | V c |")
     for (r = 0; r < n / 3; r++) { want("| " r " | " v[3 * r + 1] " | " v[3 * r + 2] " | " v[3 * r + 3] " |") }
     end_table()
-    if (listed(says("quantizer columnOf")) != "0, 1, 2") { complain("format.awk: quantizer columnOf is not 0, 1, 2 for a, b, c") }
-    from = behind("quantizer foldedOf", "cond (ltb q "); has("quantizer foldedOf", "getD chromaTable (q - " from ") 0")
-    sentence(name, "clipped to 0.." highest ", stands where it is below " from "; from " from " to " highest " it becomes " listed(says("quantizer chromaTable")) ".")
-    if (split(listed(says("quantizer chromaTable")), v, ", ") != highest - from + 1) { complain("format.awk: chromaTable does not go from " from " to " highest) }
-    sentence(name, "p = Q / " behind("quantizer periodOf", "qp / ") " and r = Q mod " behind("quantizer remainderOf", "qp % ") ".")
-    has("quantizer classAt", "cond (even row && even column) A (cond (odd row && odd column) B C)")
+    if (listed(says("quantizer column_of")) != "0, 1, 2") { complain("format.awk: quantizer column_of is not 0, 1, 2 for a, b, c") }
+    from = behind("quantizer folded_of", "cond (ltb q "); has("quantizer folded_of", "get_or chroma_table (q - " from ") 0")
+    sentence(name, "clipped to 0.." highest ", stands where it is below " from "; from " from " to " highest " it becomes " listed(says("quantizer chroma_table")) ".")
+    if (split(listed(says("quantizer chroma_table")), v, ", ") != highest - from + 1) { complain("format.awk: chroma_table does not go from " from " to " highest) }
+    sentence(name, "p = Q / " behind("quantizer period_of", "qp / ") " and r = Q mod " behind("quantizer remainder_of", "qp % ") ".")
+    has("quantizer class_at", "cond (even row && even column) A (cond (odd row && odd column) B C)")
     sentence(name, "a where row and column are both even, b where both are odd, c elsewhere.")
-    sentence(name, "Zigzag: level i of a block belongs to place " listed(says("quantizer zigzagTable")) " of its 4x4, counted by rows.")
+    sentence(name, "Zigzag: level i of a block belongs to place " listed(says("quantizer zigzag_table")) " of its 4x4, counted by rows.")
 }
 
 # the others: of what stands where only the files are held
@@ -667,10 +667,10 @@ function hold_all(  at, part) {
 }
 
 END {
-    if (!("record kinds" in rows_of) || !("picture blockTable" in rows_of)) { complain("crates/ has no definitions of the format"); exit 1 }
-    old_mark = value(says("head oldMark")); new_mark = value(says("head newMark")); old_long = says("head oldLength"); new_long = says("head newLength")
-    highest = says("quantizer highest"); offset = behind("quantizer chromaTests", "(pos "); has("quantizer chromaTests", "(inside (minus " offset ") (pos " offset ") offset)")
-    wide_low = behind("residual firstWide", "minus "); wide_high = behind("residual firstWide", "pos ")
+    if (!("record kinds" in rows_of) || !("picture block_table" in rows_of)) { complain("crates/ has no definitions of the format"); exit 1 }
+    old_mark = value(says("head old_mark")); new_mark = value(says("head new_mark")); old_long = says("head old_length"); new_long = says("head new_length")
+    highest = says("quantizer highest"); offset = behind("quantizer chroma_tests", "(pos "); has("quantizer chroma_tests", "(inside (minus " offset ") (pos " offset ") offset)")
+    wide_low = behind("residual first_wide", "minus "); wide_high = behind("residual first_wide", "pos ")
     read_kinds()
     hold_sizes()
     hold_head()

@@ -16,22 +16,24 @@ function shown(crate, path, name) {
 BEGIN {
     FS = "\t"
     # what both kinds of theorems say
-    forms["Unique"] = "abbrev pub Unique : (n : ℕ) (ps : List (PK n)) (r : RK n) → Out n ps r → (B : Type 0) → ((κs : Lfts n) → AtExit (endedOf n ps r) κs → B) → Type 0" \
-        " Unique n ps r P B seen = (κs : Lfts n) (a : Dens κs ps) (x y : resT r κs .Denot) (e f : AtExit (endedOf n ps r) κs) → P κs a x e → P κs a y f" \
+    forms["Unique"] = "abbrev pub Unique : (n : ℕ) (ps : List (ParamKind n)) (r : ResultKind n) → Out n ps r → (B : Type 0) → ((κs : Lfts n) → AtExit (ended_of n ps r) κs → B) → Type 0" \
+        " Unique n ps r P B seen = (κs : Lfts n) (a : Dens κs ps) (x y : (res_t r κs).Denot) (e f : AtExit (ended_of n ps r) κs) → P κs a x e → P κs a y f" \
         " → (x ≡ y) × (seen κs e ≡ seen κs f)"
-    forms["RefusesExactlyIf"] = "abbrev pub RefusesExactlyIf : (n : ℕ) (ps : List (PK n)) (r : RK n) → Out n ps r → ((κs : Lfts n) → Dens κs ps → List (Test Refusal))" \
-        " → ((κs : Lfts n) → resT r κs .Denot → Verdict Refusal) → Type 0 RefusesExactlyIf n ps r P tests told = (κs : Lfts n) (a : Dens κs ps)" \
-        " (x : resT r κs .Denot) (e : AtExit (endedOf n ps r) κs) → P κs a x e → ExactlyIf (tests κs a) (told κs x)"
+    forms["RefusesExactlyIf"] = "abbrev pub RefusesExactlyIf : (n : ℕ) (ps : List (ParamKind n)) (r : ResultKind n) → Out n ps r → ((κs : Lfts n) → Dens κs ps → List (Test Refusal))" \
+        " → ((κs : Lfts n) → (res_t r κs).Denot → Verdict Refusal) → Type 0 RefusesExactlyIf n ps r P tests told = (κs : Lfts n) (a : Dens κs ps)" \
+        " (x : (res_t r κs).Denot) (e : AtExit (ended_of n ps r) κs) → P κs a x e → ExactlyIf (tests κs a) (told κs x)"
 }
 reading_list { next }
 $1 == "listed" { listed[$2] = 1; next }
 $1 == "folder" { folder[$2] = 1; next }
-$1 == "edit" { edit[$2, $3] = 1; edits++; known[$3] = 1; next }
+$1 == "edit" { edit[$2, $3] = 1; edit_name[$3] = 1; edits++; known[$3] = 1; next }
 $1 == "function" {
     any_function[$4] = 1
-    if ($6 == "exported") { exported[$4] = 1; exports++ }
-    if ($5 == "public" || $6 == "exported") {
-        name = shown($2, $3, $4)
+    name = shown($2, $3, $4)
+    contract_of[name] = $11
+    if ($6 == "exported") { exported[$4] = 1; exports++; export_of[++thin] = name; library_of[name] = $2; sub(/_c$/, "", library_of[name]); in_c[name] = $2; bare_of[name] = $4; at_root[name] = $3 == "-" }
+    # the crate of C's exports repeats those of the library, and is held to them (hold_thin)
+    if ($5 == "public" && $6 != "exported" || $6 == "exported" && ($2 !~ /_c$/ || $3 != "-")) {
         is_public[name] = 1
         public[++publics] = name; crate_of[name] = $2; path_of[name] = $3; name_of[name] = $4
         is_exported[name] = $6; has_requires[name] = $7; result_of[name] = $8; outputs_of[name] = $9
@@ -51,6 +53,7 @@ $1 == "declared" {
     }
     known[$4] = 1
     if (folder_of == "proofs" && $5 == "name") { theorem[$4] = 1 }
+    if (folder_of == "specs" && $5 == "name") { defined[$4] = 1 }
     next
 }
 $1 == "file" { file_of[$2, $3] = 1; next }
@@ -80,13 +83,13 @@ function hold_crates(  crate) {
 }
 
 function theorem_of(name,  stem, path, type) {
-    stem = name_of[name]; gsub(/_/, "-", stem)
+    stem = name_of[name]
     path = path_of[name]
-    if (path ~ /[A-Z]/) { type = path; sub(/.*\./, "", type); type = tolower(type); gsub(/_/, "-", type); stem = type "-" stem }
+    if (path ~ /[A-Z]/) { type = path; sub(/.*\./, "", type); type = tolower(type); stem = type "_" stem }
     return stem
 }
 
-function own_proofs(name) { return "Rattle·" crate_of[name] "·proofs.proofs." (path_of[name] == "-" ? "" : path_of[name] ".") name_of[name] }
+function own_proofs(name) { return "Rattle." crate_of[name] ".proofs." (path_of[name] == "-" ? "" : path_of[name] ".") name_of[name] }
 
 # what a file of theorems says it with: taken of the module that has it, and not declared there again
 function hold_word(crate, file, word, module) {
@@ -103,7 +106,7 @@ function hold_reading(about, name, file, ps, r, learnt,  crate, own) {
 
 # the theorem is over the function's own kinds and reading, and sees each output at exit and nothing else
 function hold_uniqueness(name,  crate, t, about) {
-    crate = crate_of[name]; t = theorem_of(name) "-unique"; about = name ": " t
+    crate = crate_of[name]; t = theorem_of(name) "_unique"; about = name ": " t
     if (!((crate, t) in unique)) { complain(name " has no " t " in crates/" crate "/proofs/Unique.antt"); return }
     if (beside[crate, t] == "?") { complain(about " is not written as a uniqueness theorem"); return }
     hold_reading(about, name, "Unique", of_ps[crate, t], of_r[crate, t], of_learnt[crate, t])
@@ -114,13 +117,12 @@ function hold_uniqueness(name,  crate, t, about) {
         complain(about " sees something else than its outputs at exit: " beside[crate, t])
     }
     with_unique[crate] = 1
-    if (outputs_of[name] != "-") { with_outputs[crate] = 1 }
 }
 
 # a file of `specs/` by its module, as "crate, folder/file"; nothing if the module is none
 function specs_of(module,  crate, file) {
-    if (module !~ /^Rattle·[a-z0-9_]+(·specs)?\.specs\.[A-Za-z0-9]+$/) { return "" }
-    crate = module; sub(/^Rattle·/, "", crate); sub(/(·specs)?\.specs\..*/, "", crate)
+    if (module !~ /^Rattle\.[a-z0-9_]+\.specs\.[A-Za-z0-9]+$/) { return "" }
+    crate = module; sub(/^Rattle\./, "", crate); sub(/\.specs\..*/, "", crate)
     file = module; sub(/.*\./, "", file)
     return crate SUBSEP "specs/" file
 }
@@ -134,7 +136,7 @@ function hold_refusing(name, t,  crate, about, tests, tells, at, word, n) {
     if (tests == "?") { complain(about " is not written as a theorem of refusing exactly if"); return }
     hold_reading(about, name, "Refuses", ps_refused[crate, t], r_refused[crate, t], learnt_refused[crate, t])
     at = specs_of(takes[crate, "Refuses", tests])
-    if (tests !~ /Tests$/ || at == "" || !((at, tests) in declared) || stands(crate, "proofs/Refuses", tests)) {
+    if (tests !~ /_tests$/ || at == "" || !((at, tests) in declared) || stands(crate, "proofs/Refuses", tests)) {
         complain(about " names the tests " tests ", which it takes of no file of specs/")
     }
     at = specs_of(takes[crate, "Refuses", tells])
@@ -148,11 +150,9 @@ function hold_refusing(name, t,  crate, about, tests, tells, at, word, n) {
 # the words that both kinds of theorems are written with, and what these say, word for word
 function hold_words(  crate, name) {
     for (name in forms) { if (said_form[name] != forms[name]) { complain(name " is not what it was: " said_form[name]) } }
-    for (crate in with_unique) { hold_word(crate, "Unique", "Unique", "Rattle·unique.specs.Unique") }
-    for (crate in with_outputs) { hold_word(crate, "Unique", "now", "denote.Ref") }
+    for (crate in with_unique) { hold_word(crate, "Unique", "Unique", "Rattle.unique.specs.Unique") }
     for (crate in with_refuses) {
-        hold_word(crate, "Refuses", "RefusesExactlyIf", "Rattle·refusal.specs.Refuses")
-        if ((crate, "Refuses", "now") in takes) { hold_word(crate, "Refuses", "now", "denote.Ref") }
+        hold_word(crate, "Refuses", "RefusesExactlyIf", "Rattle.refusal.specs.Refuses")
         if ((crate, "Refuses", "length") in takes) { hold_word(crate, "Refuses", "length", "lib.ListN") }
     }
 }
@@ -161,6 +161,19 @@ function can_refuse(name,  word, n, k) {
     n = split(result_of[name], word, ",")
     for (k = 1; k <= n; k++) { if (word[k] in refusing) { return 1 } }
     return 0
+}
+
+# A crate is a library or a static library, so the exports of NAME stand in NAME_c: each is there, at the root, and is the library's function of its name,
+# with all that stands between the name and the body, word for word. So what is said of the library's holds of it, and that one counts as exported.
+function hold_thin(  k, name, of) {
+    for (k = 1; k <= thin; k++) {
+        name = export_of[k]
+        if (in_c[name] == library_of[name] || !at_root[name]) { continue }
+        of = library_of[name] "::" bare_of[name]
+        if (!(of in is_public)) { complain("the exported " name " has no " of " in its library") }
+        else if (contract_of[of] != contract_of[name]) { complain("the exported " name " has other words than " of) }
+        else { is_exported[of] = "exported" }
+    }
 }
 
 # who calls an exported function is held to nothing, in whatever module it stands, and no exception lets it off
@@ -173,7 +186,7 @@ function hold_entry(name,  t) {
     if (path_of[name] ~ /^[a-z]/) { return }
     if (is_exported[name] == "-" && has_requires[name] != "-") { complain("the entry point " name " has a requires") }
     if (can_refuse(name)) {
-        t = theorem_of(name) "-refuses-exactly-if"
+        t = theorem_of(name) "_refuses_exactly_if"
         hold_refusing(name, t)
         if (refuses_cell[name] != t) { complain(name " has no " t " in its line of docs/STAMP.md") }
     }
@@ -257,7 +270,7 @@ function hold_definition(name,  part, one, n, k, first, m, named, reached) {
 }
 
 function hold_line(name,  t) {
-    t = theorem_of(name) "-unique"
+    t = theorem_of(name) "_unique"
     if (!(name in line_of)) { complain(name " has no line in docs/STAMP.md") }
     else if (unique_cell[name] != t) { complain(name " has another theorem than " t " in its line of docs/STAMP.md") }
 }
@@ -265,6 +278,7 @@ function hold_line(name,  t) {
 END {
     end_paragraph()
     hold_crates()
+    hold_thin()
     for (k = 1; k <= publics; k++) {
         hold_requires(public[k])
         if (public[k] in exception) { continue }

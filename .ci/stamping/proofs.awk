@@ -10,8 +10,8 @@
 #   form      `Unique` or `RefusesExactlyIf`, all that unique/specs/Unique or refusal/specs/Refuses says besides what it takes
 #   tells     crate, file of specs/, the name of an `abbrev pub NAME : RESULT → Verdict Refusal`, RESULT, and - if each of its rows says `pass`, but that
 #             of `Refused r`, which says `stop r`; else the row that does not
-# The form of a refusal's theorem: NAME-refuses-exactly-if : RefusesExactlyIf n KINDS.ps KINDS.r READS.Learnt (λ κs a. TESTS ARGS) (λ κs x. TELLS x), each of
-# ARGS being an argument of the call, `(a .1 .. .0)`, what it holds, `(now (a .1 .. .0))`, or how long that is, `(length (now (a .1 .. .0)))`.
+# The form of a refusal's theorem: NAME_refuses_exactly_if : RefusesExactlyIf n KINDS.ps KINDS.r READS.Learnt (λ κs a. TESTS ARGS) (λ κs x. TELLS x), each of
+# ARGS being an argument of the call, `a.1.0`, what it holds, `a.1.0.now`, or how long that is, `(length a.1.0.now)`.
 function no_word(a) { return a == "" ? "-" : a }
 
 function state(text,  name) {
@@ -20,7 +20,7 @@ function state(text,  name) {
     if (statement_file == "proofs/Unique") { state_unique(name, text) } else { state_refuses(name, text) }
 }
 
-# "now (e .1 .1 .0)" is the parameter at place 2 at exit
+# "e.1.1.0.now" is the parameter at place 2 at exit
 function state_unique(name, text,  word, at, seen, left, one, count, places) {
     split(text, word, " ")
     if (text !~ /^Unique [0-9]+ [^ ()]+\.ps [^ ()]+\.r [^ ()]+\.Learnt \(/ || !(at = last_of(text, "(λ ")) || text !~ /\)$/) {
@@ -31,27 +31,28 @@ function state_unique(name, text,  word, at, seen, left, one, count, places) {
     left = seen; sub(/\. .*/, "", left); sub(/.* /, "", left)
     sub(/^[^.]*\. /, "", seen); sub(/\)$/, "", seen)
     split("", count)
-    while (match(seen, "now \\(" left "( \\.1)* \\.0\\)")) {
+    seen = " " seen
+    while (match(seen, "[^A-Za-z0-9_.]" left "(\\.1)*\\.0\\.now")) {
         one = substr(seen, RSTART, RLENGTH)
-        count[gsub(/ \.1/, "", one)]++
-        seen = substr(seen, 1, RSTART - 1) substr(seen, RSTART + RLENGTH)
+        count[gsub(/\.1/, "", one)]++
+        seen = substr(seen, 1, RSTART) substr(seen, RSTART + RLENGTH)
     }
     places = ""
     for (at = 0; at < 64; at++) { while (count[at]-- > 0) { places = places (places == "" ? "" : ",") at } }
     # what holds them together: pairs, or a record with its fields
-    gsub(/record \{/, "", seen); gsub(/[A-Za-z][A-Za-z0-9-]* =/, "", seen); gsub(/[(){},; ]/, "", seen)
+    gsub(/record \{/, "", seen); gsub(/[A-Za-z][A-Za-z0-9_]* =/, "", seen); gsub(/[(){},; ]/, "", seen)
     for (at = 3; at <= 5; at++) { sub(/\.(ps|r|Learnt)$/, "", word[at]) }
     print "unique", crate, name, word[3], word[4], word[5], no_word(places), no_word(seen)
 }
 
-# (a .1 .1 .0) is the argument at place 2
+# a.1.1.0 is the argument at place 2
 function state_refuses(name, text,  word, part, tests, tells, argument) {
     split(text, word, " ")
-    argument = "\\(a( \\.1)* \\.0\\)"
+    argument = "a(\\.1)*\\.0"
     if (text ~ /^RefusesExactlyIf [0-9]+ [^ ()]+\.ps [^ ()]+\.r [^ ()]+\.Learnt \(λ κs a\. .*\) \(λ κs x\. [^ ()]+ x\)$/) {
         tests = text; sub(/^[^(]*\(λ κs a\. /, "", tests); sub(/\) \(λ κs x\. [^ ()]+ x\)$/, "", tests)
         tells = text; sub(/^.* \(λ κs x\. /, "", tells); sub(/ x\)$/, "", tells)
-        gsub(" \\(length \\(now " argument "\\)\\)", "", tests); gsub(" \\(now " argument "\\)", "", tests); gsub(" " argument, "", tests)
+        gsub(" \\(length " argument "\\.now\\)", "", tests); gsub(" " argument "\\.now", "", tests); gsub(" " argument, "", tests)
     }
     if (tests == "" || tests ~ /[ ()]/) { print "refuses", crate, name, "-", "-", "-", "?", "-"; return }
     for (part = 3; part <= 5; part++) { sub(/\.(ps|r|Learnt)$/, "", word[part]) }
@@ -115,7 +116,7 @@ FNR == 1 {
     } else if (match(text, /^[^ (){}]+( \{[^}]*\})? :( |$)/) && text !~ /^(let|module|use|mod|λ|in) /) {
         split(text, word, " ")
         if (public == "pub" || indent == 0 || in_record >= 0) { print "declared", crate, file, word[1], (in_record >= 0 ? "field" : "name"), public }
-        if (public == "pub" && indent == 0 && ((file == "proofs/Unique" && word[1] ~ /-unique$/) || (file == "proofs/Refuses" && word[1] ~ /-refuses-exactly-if$/))) {
+        if (public == "pub" && indent == 0 && ((file == "proofs/Unique" && word[1] ~ /_unique$/) || (file == "proofs/Refuses" && word[1] ~ /_refuses_exactly_if$/))) {
             statement = line; statement_file = file
         }
     }

@@ -1,6 +1,6 @@
 # What crates/*/src/*.rt declare, a line each, fields parted by tabs:
 #   function  crate, module path and type, name, `public` or `private`, `exported` or -, `requires` or -, the words of its result's type,
-#             the places of the parameters that are outputs (they have a `mut` reference), file
+#             the places of the parameters that are outputs (they have a `mut` reference), file, and all that stands between its name and its body
 #   cites     crate, module path and type, name of a function; crate, `specs/FILE` and name of a definition of specs/ that stands in one of its `ensures`,
 #             and the numbers that stand there directly behind it
 #   refusing  a type that has a variant `Refused`
@@ -9,7 +9,7 @@
 # A function is public if it has a `pub`, wherever it stands, in whatever order with `const`, `unsafe`, `extern` and the like; only
 # `pub(crate)`, `pub(super)` and `pub(self)` are not; and so is one of a trait. It is exported if an attribute keeps its name.
 # A word of an `ensures` is a definition if the file has a `ghost use` of it (or of its module, as in `paper.sad`), unless it is a parameter or bound there
-# (`λ k.`, `(k : ℕ)`), or a field (` .qp`).
+# (`λ k.`, `(k : ℕ)`), a field (`.qp`), or the name of the clause.
 function scope_name(  k, path) {
     path = ""
     for (k = 1; k <= depth; k++) {
@@ -23,9 +23,10 @@ function no_path(a) { return a == "" ? "-" : a }
 function emit(  path, public, word) {
     path = inside
     if (scope_name() != "") { path = path (path == "" ? "" : ".") scope_name() }
+    gsub(/ , \)/, " )", signature)
     public = (seen_pub && !limited) || of_trait[depth] ? "public" : "private"
     print "function", crate, no_path(path), name, public, (kept ? "exported" : "-"), (requires ? "requires" : "-"), no_path(result), \
-        no_path(outputs), FILENAME
+        no_path(outputs), FILENAME, signature
     print "word", name
     contracts++
     contract_of[contracts] = crate OFS no_path(path) OFS name
@@ -49,10 +50,10 @@ function ensured(t) {
     latest = t
 }
 
-# `ghost use Rattle·CRATE.specs.FILE.{NAME, NAME};` and `.. as NAME;`, over lines
+# `ghost use Rattle.CRATE.specs.FILE.{NAME, NAME};` and `.. as NAME;`, over lines
 function ghost(text,  of, file, n, k, item) {
-    if (text !~ /Rattle·[a-z0-9_]+(·specs)?\.specs\.[A-Za-z0-9]+(\.\{| as )/) { return }
-    of = text; sub(/^.*Rattle·/, "", of); sub(/(·specs)?\.specs\..*/, "", of)
+    if (text !~ /Rattle\.[a-z0-9_]+\.specs\.[A-Za-z0-9]+(\.\{| as )/) { return }
+    of = text; sub(/^.*Rattle\./, "", of); sub(/\.specs\..*/, "", of)
     file = text; sub(/^.*\.specs\./, "", file); sub(/[. ].*/, "", file)
     if (text ~ / as [^ ]+ *;/) { sub(/^.* as /, "", text); sub(/ *;.*/, "", text); module_of[text] = of OFS "specs/" file; return }
     sub(/^[^{]*\{/, "", text); sub(/\}.*/, "", text)
@@ -77,8 +78,9 @@ function end_file(  k, n, i, word, part, numbers) {
 function fresh() { seen_pub = 0; limited = 0; kept = 0; item = ""; bracket = 0; last = "" }
 
 function head(t) {
+    signature = signature " " t
     if (stage == "name") {
-        name = t; stage = "generics"; angle = 0
+        name = t; stage = "generics"; angle = 0; signature = ""
     } else if (stage == "generics") {
         if (t == "<") { angle++ } else if (t == ">") { angle-- }
         if (t == "(" && angle == 0) { split("", bound); split("", cited); bound["self"] = 1; stage = "parameters"; round = 1; place = 0; some = 0; output = 0; outputs = ""; angle = 0; before = "" }
@@ -107,7 +109,7 @@ function parameter(t) {
 # the result's type, then clauses, each a word and a part in braces, then the body
 function behind_parameters(t) {
     if (clause > 0) {
-        if (ensuring) { ensured(t) }
+        if (ensuring && clause > 1) { ensured(t) }
         if (t == "{") { clause++ } else if (t == "}") { clause--; if (clause == 1) { clause = 0 } }
         return
     }

@@ -5,6 +5,8 @@ function end_file(  at, part, word, n, k, qualified) {
     for (at in text) {
         n = split(text[at], word, " ")
         for (k = 1; k <= n; k++) {
+            # (a field's name stands behind its value's)
+            if (split(word[k], qualified, ".") > 1 && !(qualified[1] in of_module)) { word[k] = qualified[1] }
             if (word[k] == at || seen[at, word[k]]++) { continue }
             if (word[k] in text) { print "comes_to", crate, file, at, crate, file, word[k] }
             else if (word[k] in of_file) { print "comes_to", crate, file, at, of_file[word[k]], word[k] }
@@ -16,8 +18,8 @@ function end_file(  at, part, word, n, k, qualified) {
 
 # a file of specs/ by its module
 function specs_file(module,  of, name) {
-    if (module !~ /^Rattle·[a-z0-9_]+(·specs)?\.specs\.[A-Za-z0-9]+$/) { return "" }
-    of = module; sub(/^Rattle·/, "", of); sub(/(·specs)?\.specs\..*/, "", of)
+    if (module !~ /^Rattle\.[a-z0-9_]+\.specs\.[A-Za-z0-9]+$/) { return "" }
+    of = module; sub(/^Rattle\./, "", of); sub(/\.specs\..*/, "", of)
     name = module; sub(/.*\./, "", name)
     return of OFS "specs/" name
 }
