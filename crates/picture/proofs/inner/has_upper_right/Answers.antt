@@ -11,10 +11,10 @@ pub overflow_add-column : goal.overflow_add-column
 overflow_add-column c = omega (arith, c.column.ensures, (room_among c.requires).wide)
 
 pub returns-then-column-layout : goal.returns-then-column-layout
-returns-then-column-layout c = let is = upper_right_is (among_four c.requires) in grind (arith, nat_tests, common_steps, is)
+returns-then-column-layout c = let is = upper_right_is (among_four c.requires) in grind (arith, nat_tests, is)
 
 pub returns-else-column-layout : goal.returns-else-column-layout
-returns-else-column-layout c = let is = upper_right_is (among_four c.requires) in grind (arith, nat_tests, common_steps, is)
+returns-else-column-layout c = let is = upper_right_is (among_four c.requires) in grind (arith, nat_tests, is)
 
 pub returns-else-row_in_slice-gt0 : goal.returns-else-row_in_slice-gt0
-returns-else-row_in_slice-gt0 c = let is = upper_right_is (among_four c.requires) in grind (arith, nat_tests, common_steps, is)
+returns-else-row_in_slice-gt0 c = let is = upper_right_is (among_four c.requires) in grind (arith, nat_tests, is)
