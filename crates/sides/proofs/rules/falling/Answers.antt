@@ -3,22 +3,12 @@ use mathlib.Core.Path.{◌≡◌, sym, ap, ◌∙◌}
 use mathlib.Core.List.{List, ◌∷◌}
 use Prim.Native.Nat.{ℕ, suc, ◌+◌, ◌*◌, ◌-◌, ◌/◌, ◌<◌, ◌≤◌}
 use native.Mathlib.Omega.{arith}
-use borrow.Author.Rules.{rules}
 use lib.ListN.{get_or}
 use Rattle.lists.specs.Total.{total}
-use Rattle.lists.proofs.Total.{Totalling, totalling_none, totalling_more, totalling_done}
+use Rattle.lists.proofs.Total.{totalling_none, totalling_more, totalling_done}
 use Rattle.sides.specs.Code.{falling}
-use Rattle.sides.proofs.rules.falling.Statement.{statement}
-use Rattle.sides.proofs.rules.falling.Tie as tie
-
-unfoldable term : ℕ → ℕ → List ℕ → ℕ → ℕ
-term last corner side j = (j + 1) * get_or (corner ∷ side) (last - j) 0
-
-abbrev invariant-loop : tie.invariant-loop
-invariant-loop n corner side last sum₀ i₀ sum i = Totalling last (term last corner side) 2040 sum i
-
-abbrev decreases-loop : tie.decreases-loop
-decreases-loop n corner side last sum₀ i₀ sum i = last - i
+use Rattle.sides.proofs.rules.falling.Invariants.{term}
+use Rattle.sides.proofs.rules.falling.Goals as goal
 
 -- before the last turn the place is past the corner
 past : {v : ℕ} (last corner : ℕ) (side : List ℕ) (i : ℕ) → i < last → v ≡ (i + 1) * get_or side (last - 1 - i) 0 → v ≡ term last corner side i
@@ -37,29 +27,14 @@ done n corner side h e f =
     let g : (n / 2 - 1 + 1) * corner ≡ term (n / 2 - 1) corner side (n / 2 - 1) = ap (λ (k : ℕ). (n / 2 - 1 + 1) * get_or (corner ∷ side) k 0) (sym z) in
     (λ i. e i + (f ∙ g) i) ∙ sym t
 
-returns : tie.Need-returns invariant-loop decreases-loop
-returns c =
-    let a = c.before.before.before.before.args in
-    (done a.n a.corner a.side.now (omega arith) (totalling_done _ _ _ c.before.before.loop.invariant (omega arith)) c.weighted2.ensures.0, omega arith)
+pub loop-i-init : goal.loop-i-init
+loop-i-init c = totalling_none _ _ _
 
-pub falling-spec : {M : Type 1} → statement M
-falling-spec =
-    tie.close
-    (tie.spec
-    invariant-loop
-    decreases-loop
-    (λ c. omega arith)
-    (λ c. totalling_none _ _ _)
-    (λ c. search rules)
-    (λ c. search rules)
-    (λ c. search rules)
-    (λ c. search rules)
-    (λ c κs. search rules)
-    (λ c. search rules)
-    (λ c. search rules)
-    (λ c. search rules)
-    (λ c. totalling_more _ _ _ c.before.before.before.loop.invariant (omega arith) (past _ _ _ _ (omega arith) c.weighted.ensures.0) c.weighted.ensures.1)
-    (λ c. search rules)
-    (λ c κs. search rules)
-    (λ c. omega arith)
-    returns)
+pub loop-i-preserved : goal.loop-i-preserved
+loop-i-preserved c =
+    totalling_more _ _ _ c.loop-i.invariant (omega arith) (past _ _ _ _ (omega arith) c.weighted-sum.ensures.0) c.weighted-sum.ensures.1
+
+pub returns : goal.returns
+returns c =
+    let a = c.args in
+    (done a.n a.corner a.side.now (omega arith) (totalling_done _ _ _ c.loop-i.invariant (omega arith)) c.weighted.ensures.0, omega arith)

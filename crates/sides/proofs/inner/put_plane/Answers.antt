@@ -2,7 +2,6 @@
 use mathlib.Core.Path.{◌≡◌, ◌∙◌}
 use mathlib.Core.List.{List, [], ◌∷◌}
 use Prim.Native.Nat.{ℕ, ◌-◌}
-use borrow.Author.Rules.{rules}
 use lib.IntN.{ℤ, pos, ◌+ℤ◌, ◌*ℤ◌}
 use mir.Syntax.{w32}
 use mir.Val.{to_z, of_z}
@@ -11,10 +10,8 @@ use Rattle.whole.specs.Bounds.{Within}
 use Rattle.whole.proofs.Bound.{argument}
 use Rattle.intra4.specs.Rules.{row_of}
 use Rattle.sides.specs.Plane.{slope, tilt, slanted, plane}
-use Rattle.sides.proofs.inner.put_plane.Statement.{statement}
-use Rattle.sides.proofs.inner.put_plane.Tie as tie
+use Rattle.sides.proofs.inner.put_plane.Goals as goal
 
--- numbers that are small are read back from their bits
 module _ (n : ℕ) (T S : ℤ → ℕ) {a b c : ℤ} {out : List ℕ} where
   planed : (a ≡ pos 16 *ℤ (pos (S (pos (n - 1))) +ℤ pos (T (pos (n - 1))))) × Within 8160 a
       → (b ≡ tilt n (slope n T)) × Within 600000 b
@@ -27,25 +24,9 @@ module _ (n : ℕ) (T S : ℤ → ℕ) {a b c : ℤ} {out : List ℕ} where
       ∙ (λ i. grid n (slanted n ((argument w32 p.1 tt).is i) ((argument w32 q.1 tt).is i) ((argument w32 r.1 tt).is i)))
       ∙ (λ i. grid n (slanted n (p.0 i) (q.0 i) (r.0 i)))
 
-returns : tie.Need-returns
+pub returns : goal.returns
 returns c =
-    let s = c.before.before.before.before.before.before.before.before.before.before.before.before in
-    planed s.args.n (row_of (s.args.corner ∷ []) s.args.above.now) (row_of (s.args.corner ∷ []) s.args.left.now) c.before.before.before.before.start.ensures
-    c.before.before.before.before.before.before.before.before.tilt.ensures
-    c.before.before.before.before.before.before.before.tilt2.ensures
-    c.before.before.put-slanted.ensures
-
-pub put-plane-spec : {M : Type 1} → statement M
-put-plane-spec =
-    tie.close
-    (tie.spec
-    (λ c κs. search rules)
-    (λ c κs. search rules)
-    (λ c. search rules)
-    (λ c. search rules)
-    (λ c. search rules)
-    (λ c. search rules)
-    (λ c κs. search rules)
-    (λ c κs. search rules)
-    (λ c. search rules)
-    returns)
+    planed c.args.n (row_of (c.args.corner ∷ []) c.args.above.now) (row_of (c.args.corner ∷ []) c.args.left.now) c.start-a.ensures
+    c.tilt-b.ensures
+    c.tilt-c.ensures
+    c.put_slanted.ensures
