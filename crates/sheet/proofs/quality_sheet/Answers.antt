@@ -1,3 +1,4 @@
+-- `sheet::quality_sheet` meets its contract: a law for each answer. Assumes nothing.
 use mathlib.Core.Path.{◌≡◌, sym, ◌∙◌}
 use mathlib.Core.Bool.{true}
 use Prim.Native.Nat.{ℕ, ◌*◌, ◌≤◌}

@@ -1,3 +1,4 @@
+-- `picture::inner::above_over` meets its contract: A to D, read where they stand. Assumes nothing.
 use mathlib.Core.Path.{sym, ◌∙◌}
 use native.Mathlib.Omega.{arith}
 use Rattle.lists.proofs.Tab.{tab_same}
@@ -5,7 +6,6 @@ use Rattle.picture.proofs.Around.{reach_above, above_place}
 use Rattle.picture.proofs.Over.{reach_own_above, above_own, above_beside}
 use Rattle.picture.proofs.inner.above_over.Goals as goal
 
--- `picture::inner::above_over` meets its contract: A to D, read where they stand. Assumes nothing.
 pub four-requires : goal.four-requires
 four-requires c =
     rw (c.own_place.ensures, c.requires.plane_len.1) (reach_own_above c.args.b c.requires.among.block c.has_above-present.result (omega (arith, c.if-row_inside-gt0.true, c.row_inside.ensures.0)))

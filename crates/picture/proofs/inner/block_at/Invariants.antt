@@ -1,3 +1,5 @@
+-- `picture::inner::block_at` meets its contract: a loop over rows round a loop over columns.
+-- Assumes nothing.
 use mathlib.Core.List.{List}
 use Prim.Native.Nat.{ℕ, ◌+◌, ◌*◌}
 use lib.ListN.{get_or}

@@ -1,3 +1,4 @@
+-- `picture::inner::corner_over` meets its contract: M, read where it stands. Assumes nothing.
 use mathlib.Core.Path.{◌≡◌, sym, ◌∙◌}
 use Prim.Native.Nat.{ℕ, ◌*◌, ◌<◌, ◌≤◌}
 use native.Mathlib.Omega.{arith}
@@ -6,7 +7,6 @@ use Rattle.picture.proofs.Around.{reach_corner, corner_place}
 use Rattle.picture.proofs.Over.{both_some, corner_own, corner_beside}
 use Rattle.picture.proofs.inner.corner_over.Goals as goal
 
--- `picture::inner::corner_over` meets its contract: M, read where it stands. Assumes nothing.
 -- whether it stands in the macroblock: the numbers that the code multiplies are the row and the column of its block
 inside : (b : ℕ) {x y : ℕ} → x ≡ row_in b → y ≡ column_in b → 0 < x * y → (0 < row_in b) × (0 < column_in b)
 inside b row column h = both_some _ _ (rw (row, column) at h)

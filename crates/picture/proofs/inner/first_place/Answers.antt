@@ -1,3 +1,5 @@
+-- `picture::inner::first_place` meets its contract.
+-- Assumes nothing.
 use native.Mathlib.Omega.{arith}
 use Rattle.picture.proofs.Plane.{samples_fit, first_in_law}
 use Rattle.picture.proofs.inner.first_place.Goals as goal

@@ -1,3 +1,5 @@
+-- `picture::inner::flags` meets its contract: a bit for each group of neighbours.
+-- Assumes nothing.
 use Rattle.picture.proofs.Byte.{among_four, flags_by}
 use Rattle.picture.proofs.inner.flags.Goals as goal
 

@@ -1,9 +1,9 @@
+-- `picture::inner::flags_round` meets its contract: a bit for each group of neighbours, by those of the first block.
+-- Assumes nothing.
 use native.Mathlib.Omega.{arith}
 use Rattle.picture.proofs.Round.{first_above, first_left, first_corner, flags_round_by}
 use Rattle.picture.proofs.inner.flags_round.Goals as goal
 
--- `picture::inner::flags_round` meets its contract: a bit for each group of neighbours, by those of the first block.
--- Assumes nothing.
 pub returns : goal.returns
 returns c =
     let a = c.requires in

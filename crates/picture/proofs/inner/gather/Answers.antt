@@ -1,3 +1,5 @@
+-- `picture::inner::gather` meets its contract: the neighbours group by group, each behind the block's first sample.
+-- Assumes nothing.
 use mathlib.Core.Path.{sym}
 use Rattle.lists.specs.Tab.{tab}
 use Rattle.picture.proofs.Around.{reach_corner, reach_above, reach_right, reach_left, gathered_parts}

@@ -1,10 +1,10 @@
+-- `picture::inner::gather_over` meets its contract: the neighbours group by group. Assumes nothing.
 use mathlib.Core.Path.{sym}
 use Rattle.lists.specs.Tab.{tab}
 use Rattle.picture.specs.Whole.{with_whole}
 use Rattle.picture.proofs.Around.{in_groups}
 use Rattle.picture.proofs.inner.gather_over.Goals as goal
 
--- `picture::inner::gather_over` meets its contract: the neighbours group by group. Assumes nothing.
 pub returns : goal.returns
 unfolding tab
 returns c =

@@ -1,3 +1,5 @@
+-- `picture::inner::gather_round` meets its contract: the neighbours group by group, each behind the macroblock's first sample.
+-- Assumes nothing.
 use mathlib.Core.Path.{◌∙◌}
 use native.Mathlib.Omega.{arith}
 use Rattle.lists.proofs.Stores.{storing_none}

@@ -1,3 +1,5 @@
+-- `picture::inner::has_above` meets its contract: there is a row above, in the slice.
+-- Assumes nothing.
 use Rattle.picture.proofs.Byte.{among_four, above_is}
 use Rattle.picture.proofs.inner.has_above.Goals as goal
 

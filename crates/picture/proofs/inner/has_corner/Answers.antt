@@ -1,3 +1,5 @@
+-- `picture::inner::has_corner` meets its contract: there are a row above and a column at the left.
+-- Assumes nothing.
 use mathlib.Core.Path.{sym, ◌∙◌}
 use Rattle.picture.proofs.Byte.{among_four, corner_is}
 use Rattle.picture.proofs.inner.has_corner.Goals as goal

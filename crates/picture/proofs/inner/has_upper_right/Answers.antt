@@ -1,3 +1,5 @@
+-- `picture::inner::has_upper_right` meets its contract: there is a row above, the four samples lie in it, and their block comes earlier.
+-- Assumes nothing.
 use native.Mathlib.Omega.{arith}
 use Rattle.std.proofs.lemmas.Grind.{common_steps}
 use Rattle.std.proofs.lemmas.Bool.Decides.{nat_tests}
@@ -5,8 +7,6 @@ use Rattle.picture.proofs.Byte.{among_four, upper_right_is}
 use Rattle.picture.proofs.Plane.{room_among}
 use Rattle.picture.proofs.inner.has_upper_right.Goals as goal
 
--- `picture::inner::has_upper_right` meets its contract: there is a row above, the four samples lie in it, and their block comes earlier.
--- Assumes nothing.
 pub overflow_add-column : goal.overflow_add-column
 overflow_add-column c = omega (arith, c.column.ensures, (room_among c.requires).wide)
 

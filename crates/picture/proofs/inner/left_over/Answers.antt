@@ -1,3 +1,4 @@
+-- `picture::inner::left_over` meets its contract: I to L, read where they stand. Assumes nothing.
 use mathlib.Core.Path.{sym, ◌∙◌}
 use native.Mathlib.Omega.{arith}
 use Rattle.lists.proofs.Tab.{tab_same}
@@ -5,7 +6,6 @@ use Rattle.picture.proofs.Around.{reach_left, left_place}
 use Rattle.picture.proofs.Over.{reach_own_left, left_own, left_beside}
 use Rattle.picture.proofs.inner.left_over.Goals as goal
 
--- `picture::inner::left_over` meets its contract: I to L, read where they stand. Assumes nothing.
 pub four-requires : goal.four-requires
 four-requires c =
     rw (c.own_place.ensures, c.requires.plane_len.1) (reach_own_left c.args.b c.requires.among.block c.has_left-present.result (omega (arith, c.column_inside.ensures.0)))

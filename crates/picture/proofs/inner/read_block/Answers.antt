@@ -1,7 +1,7 @@
+-- `picture::inner::read_block` meets its contract. Assumes nothing.
 use Rattle.picture.proofs.Plane.{room_among}
 use Rattle.picture.proofs.inner.read_block.Goals as goal
 
--- `picture::inner::read_block` meets its contract. Assumes nothing.
 pub block_at-requires : goal.block_at-requires
 block_at-requires c =
     let r = room_among c.requires.among in

@@ -1,3 +1,5 @@
+-- `picture::inner::read_whole` meets its contract: a loop that reads a row at a turn.
+-- Assumes nothing.
 use mathlib.Core.List.{List}
 use Prim.Native.Nat.{ℕ, ◌+◌, ◌*◌, ◌≤◌}
 use lib.ListN.{get_or}

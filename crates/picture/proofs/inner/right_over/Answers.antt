@@ -1,3 +1,4 @@
+-- `picture::inner::right_over` meets its contract: E to H, read where they stand. Assumes nothing.
 use mathlib.Core.Path.{sym, ◌∙◌}
 use native.Mathlib.Omega.{arith}
 use Rattle.lists.proofs.Tab.{tab_same}
@@ -5,7 +6,6 @@ use Rattle.picture.proofs.Around.{reach_right, right_place}
 use Rattle.picture.proofs.Over.{reach_own_right, right_own, right_beside}
 use Rattle.picture.proofs.inner.right_over.Goals as goal
 
--- `picture::inner::right_over` meets its contract: E to H, read where they stand. Assumes nothing.
 pub four-requires : goal.four-requires
 four-requires c =
     rw (c.own_place.ensures, c.requires.plane_len.1) (reach_own_right c.args.b c.requires.among.block c.has_upper_right-present.result (omega (arith, c.if-row_inside-gt0.true, c.row_inside.ensures.0)))

@@ -1,3 +1,5 @@
+-- `picture::inner::row` meets its contract.
+-- Assumes nothing.
 use borrow.Author.Rules.{rules}
 use Rattle.picture.specs.Order.{block_row}
 use Rattle.picture.proofs.inner.row.Goals as goal

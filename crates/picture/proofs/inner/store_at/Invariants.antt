@@ -1,3 +1,5 @@
+-- `picture::inner::store_at` meets its contract: a loop whose stores are scattered.
+-- Assumes nothing.
 use Prim.Native.Nat.{ℕ, ◌+◌, ◌*◌, ◌/◌, ◌%◌}
 use lib.ListN.{get_or}
 use Rattle.lists.proofs.Stores.{Storing}

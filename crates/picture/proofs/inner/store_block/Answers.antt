@@ -1,7 +1,7 @@
+-- `picture::inner::store_block` meets its contract. Assumes nothing.
 use Rattle.picture.proofs.Plane.{room_among}
 use Rattle.picture.proofs.inner.store_block.Goals as goal
 
--- `picture::inner::store_block` meets its contract. Assumes nothing.
 pub store_at-requires : goal.store_at-requires
 store_at-requires c =
     let r = room_among c.requires.among in

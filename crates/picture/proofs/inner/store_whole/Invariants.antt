@@ -1,3 +1,5 @@
+-- `picture::inner::store_whole` meets its contract: a loop that stores a row at a turn.
+-- Assumes nothing.
 use Prim.Native.Nat.{ℕ, ◌+◌, ◌*◌, ◌/◌, ◌%◌, ◌≤◌}
 use lib.ListN.{get_or}
 use Rattle.lists.proofs.Stores.{Storing}

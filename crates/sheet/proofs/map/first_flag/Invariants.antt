@@ -1,3 +1,4 @@
+-- `sheet::map::first_flag` meets its contract: a loop that leaves at the first place where the test passes. Assumes nothing.
 use mathlib.Core.Bool.{Bool}
 use mathlib.Core.List.{List}
 use Prim.Native.Nat.{ℕ, ◌-◌}

@@ -1,3 +1,4 @@
+-- `sheet::map::present` meets its contract: a loop that counts. Assumes nothing.
 use mathlib.Core.Bool.{cond}
 use Prim.Native.Nat.{ℕ, ◌-◌}
 use lib.ListN.{length}
@@ -5,7 +6,6 @@ use Rattle.lists.proofs.Total.{Totalling}
 use Rattle.sheet.specs.Errors.{is_present}
 use Rattle.sheet.proofs.map.present.Given as goal
 
--- `sheet::map::present` meets its contract: a loop that counts. Assumes nothing.
 abbrev pub invariant-loop-m : goal.invariant-loop-m
 invariant-loop-m l = Totalling (length l.map) (λ (m : ℕ). cond (is_present l.map m) 1 0) 1 l.count l.m
 

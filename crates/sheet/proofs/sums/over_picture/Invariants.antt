@@ -1,3 +1,4 @@
+-- `sheet::sums::over_picture` meets its contract: a loop over macroblocks. Assumes nothing.
 use mathlib.Core.Bool.{cond}
 use Prim.Native.Nat.{ℕ}
 use Rattle.picture.specs.Plane.{layout_of}
@@ -6,7 +7,6 @@ use Rattle.sheet.specs.Errors.{is_present}
 use Rattle.sheet.proofs.Adding.{Adding}
 use Rattle.sheet.proofs.sums.over_picture.Given as goal
 
--- `sheet::sums::over_picture` meets its contract: a loop over macroblocks. Assumes nothing.
 abbrev pub invariant-loop-m : goal.invariant-loop-m
 invariant-loop-m l =
     Adding l.count 256 (λ (g : ℕ → ℕ) m. cond (is_present l.map m) (macroblock_total (layout_of l.width l.height) m g) 0) l.original l.rebuilt (of_totals l.totals) l.m

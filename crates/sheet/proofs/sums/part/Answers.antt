@@ -1,3 +1,4 @@
+-- `sheet::sums::part` meets its contract: an absent macroblock is left out. Assumes nothing.
 use mathlib.Core.Path.{◌≡◌, ap, ◌∙◌}
 use native.Mathlib.Omega.{arith}
 use Rattle.picture.specs.declared.Layout.{Layout}
