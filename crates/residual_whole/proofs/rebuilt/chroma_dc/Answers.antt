@@ -1,0 +1,11 @@
+use mathlib.Core.Path.{sym, ap, subst, ◌∙◌}
+use borrow.Author.Rules.{rules}
+use Rattle.whole.specs.Bounds.{Each}
+use Rattle.whole.proofs.Lists.{each_take}
+use Rattle.dc.specs.Dc.{chroma_values}
+use Rattle.residual_whole.specs.Rebuilt.{dc_values, values_in}
+use Rattle.residual_whole.proofs.rebuilt.chroma_dc.Goals as goal
+
+pub returns : goal.returns
+unfolding values_in dc_values
+returns c = c.chroma_values.ensures ∙ ap (chroma_values _) c.copy.ensures
