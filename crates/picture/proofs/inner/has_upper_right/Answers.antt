@@ -1,7 +1,6 @@
 -- `picture::inner::has_upper_right` meets its contract: there is a row above, the four samples lie in it, and their block comes earlier.
 -- Assumes nothing.
 use native.Mathlib.Omega.{arith}
-use Rattle.std.proofs.lemmas.Grind.{common_steps}
 use Rattle.std.proofs.lemmas.Bool.Decides.{nat_tests}
 use Rattle.picture.proofs.Byte.{among_four, upper_right_is}
 use Rattle.picture.proofs.Plane.{room_among}
