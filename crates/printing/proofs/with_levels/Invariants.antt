@@ -1,0 +1,14 @@
+-- `printing::with_levels` meets its contract: a loop that adds a number and what stands behind it in each turn. Assumes nothing.
+use mathlib.Core.List.{[], ◌∷◌, ◌++◌}
+use Prim.Native.Nat.{ℕ, ◌-◌, ◌≤◌}
+use lib.IntN.{pos}
+use lib.ListN.{get_or}
+use Rattle.printing.specs.Text.{signed_of, behind}
+use Rattle.printing.proofs.Adding.{Adding}
+use Rattle.printing.proofs.with_levels.Given as goal
+
+abbrev pub invariant-loop-k : goal.invariant-loop-k
+invariant-loop-k l = (Adding (λ (j : ℕ). signed_of (get_or l.levels j (pos 0)) ++ (behind j ∷ [])) 22 l.initial.next l.next l.k) × (l.k ≤ 16)
+
+abbrev pub decreases-loop-k : goal.decreases-loop-k
+decreases-loop-k l = 16 - l.k
