@@ -7,4 +7,4 @@ pub returns : goal.returns
 returns c =
     let a = c.args in
     turn_made a.layout a.m a.plane.now a.quantizer.qp a.mode a.levels.now
-    c.requires.0.1 c.gather_round.ensures c.fill.ensures c.store_one.ensures
+    c.requires.among.1 c.gather_round.ensures c.fill.ensures c.store_one.ensures
