@@ -1,8 +1,8 @@
+-- `chroma::inner::choose_for_both` meets its contract: the best mode is permitted, and is filled last in both planes. Assumes nothing.
 use native.Mathlib.Omega.{arith}
 use Rattle.chroma.proofs.Found.{found_permitted, found}
 use Rattle.chroma.proofs.inner.choose_for_both.Goals as goal
 
--- `chroma::inner::choose_for_both` meets its contract: the best mode is permitted, and is filled last in both planes. Assumes nothing.
 pub fill-requires : goal.fill-requires
 fill-requires c =
     let a = c.args in

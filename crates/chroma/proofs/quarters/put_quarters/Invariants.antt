@@ -1,9 +1,9 @@
+-- `chroma::quarters::put_quarters` meets its contract: two loops that store the quarter's mean. Assumes nothing.
 use Prim.Native.Nat.{ℕ, ◌-◌, ◌/◌}
 use Rattle.lists.proofs.Tab.{Squaring}
 use Rattle.chroma.specs.Code.{quarter_at}
 use Rattle.chroma.proofs.quarters.put_quarters.Given as goal
 
--- `chroma::quarters::put_quarters` meets its contract: two loops that store the quarter's mean. Assumes nothing.
 abbrev pub invariant-loop-x : goal.invariant-loop-x
 invariant-loop-x l = Squaring 8 (λ (u v : ℕ). quarter_at l.means (u / 4) (v / 4)) l.out l.y l.x
 

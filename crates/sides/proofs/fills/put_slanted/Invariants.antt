@@ -1,9 +1,9 @@
+-- `sides::fills::put_slanted` meets its contract: two loops that store the rule in raster order, by row and column. Assumes nothing.
 use Prim.Native.Nat.{◌-◌}
 use Rattle.lists.proofs.Tab.{Squaring}
 use Rattle.sides.specs.Plane.{slanted}
 use Rattle.sides.proofs.fills.put_slanted.Given as goal
 
--- `sides::fills::put_slanted` meets its contract: two loops that store the rule in raster order, by row and column. Assumes nothing.
 abbrev pub invariant-loop-x : goal.invariant-loop-x
 invariant-loop-x l = Squaring l.n (slanted l.n l.a l.b l.c) l.out l.y l.x
 

@@ -1,3 +1,4 @@
+-- `sides::inner::permitted` meets its contract, mode by mode; past the last key the table has no entry. Assumes nothing.
 use mathlib.Core.Path.{sym}
 use mathlib.Core.Bool.{true, false}
 use mathlib.Core.List.{[], ◌∷◌}
@@ -7,7 +8,6 @@ use Rattle.intra4.specs.Samples.{bit_of, all_present}
 use Rattle.sides.specs.Rules.{permitted}
 use Rattle.sides.proofs.inner.permitted.Goals as goal
 
--- `sides::inner::permitted` meets its contract, mode by mode; past the last key the table has no entry. Assumes nothing.
 pub returns-in-0 : goal.returns-in-0
 unfolding permitted
 returns-in-0 c = rw c.in-0.is c.flag.ensures

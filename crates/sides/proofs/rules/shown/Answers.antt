@@ -1,3 +1,4 @@
+-- `sides::rules::shown` meets its contract: straight-line code. Assumes nothing.
 use mathlib.Core.Path.{refl, ap, ◌∙◌}
 use mathlib.Core.List.{List, [], ◌∷◌}
 use Prim.Native.Nat.{ℕ}
@@ -9,21 +10,16 @@ use Rattle.whole.specs.Clip.{clip}
 use Rattle.whole.proofs.Steps.{Code, inp, add, shr, exact_of, at_most, bounded_at}
 use Rattle.sides.specs.Code.{shown_of}
 use Rattle.sides.proofs.rules.shown.Goals as goal
-use Rattle.sides.proofs.rules.shown.Goals.{Start}
-
--- `sides::rules::shown` meets its contract: straight-line code. Assumes nothing.
-abbrev numbers : Start → List ℤ
-numbers c = c.args.row ∷ c.args.rise ∷ []
 
 abbrev bounds : List ℕ
 bounds = 30000000 ∷ 20000000 ∷ []
-
-small : (c : Start) (i : ℕ) → Within (at_most bounds i) (get_or (numbers c) i (pos 0))
-small c = bounded_at bounds (numbers c) refl (c.requires.0, (c.requires.1, tt))
 
 abbrev both : Code
 both = add (inp 0) (inp 1)
 
 pub returns : goal.returns
 unfolding shown_of
-returns c = c.clip.ensures ∙ ap (clip 255) (exact_of w32 (at_most bounds) (numbers c.before) (small c.before) (shr both 5) tt)
+returns c =
+    let numbers : List ℤ = c.args.row ∷ c.args.rise ∷ [] in
+    let small : (i : ℕ) → Within (at_most bounds i) (get_or numbers i (pos 0)) = bounded_at bounds numbers refl (c.requires.0, (c.requires.1, tt)) in
+    c.clip.ensures ∙ ap (clip 255) (exact_of w32 (at_most bounds) numbers small (shr both 5) tt)
