@@ -1,8 +1,7 @@
-use borrow.Author.Rules.{rules}
+-- `macroblock16::inner::code_candidate16` meets its contract: gathered, read, chosen, coded. Assumes nothing.
 use Rattle.macroblock16.proofs.Making.{candidate_made}
 use Rattle.macroblock16.proofs.inner.code_candidate16.Goals as goal
 
--- `macroblock16::inner::code_candidate16` meets its contract: gathered, read, chosen, coded. Assumes nothing.
 pub returns : goal.returns
 returns c =
     let a = c.args in

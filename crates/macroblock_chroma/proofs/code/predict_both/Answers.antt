@@ -1,6 +1,6 @@
+-- `macroblock_chroma::code::predict_both` meets its contract: gathered and read in both planes, then one choice. Assumes nothing.
 use mathlib.Core.Path.{◌∙◌}
 use native.Mathlib.Omega.{arith}
-use borrow.Author.Rules.{rules}
 use Rattle.picture.proofs.Round.{flags_any_side}
 use Rattle.macroblock_chroma.proofs.Making.{both_predicted}
 use Rattle.macroblock_chroma.proofs.code.predict_both.Goals as goal

@@ -1,10 +1,10 @@
+-- `macroblock_chroma::content::both_in_range` meets its contract: the first 64 levels are Cb's, the others Cr's. Assumes nothing.
 use mathlib.Core.Path.{sym, ap, ◌∙◌}
 use borrow.Author.Rules.{rules}
 use Rattle.macroblock_chroma.specs.Fine.{in_range}
 use Rattle.macroblock_chroma.proofs.Halves.{second_half, small_first, small_second}
 use Rattle.macroblock_chroma.proofs.content.both_in_range.Goals as goal
 
--- `macroblock_chroma::content::both_in_range` meets its contract: the first 64 levels are Cb's, the others Cr's. Assumes nothing.
 pub one_in_range-requires : goal.one_in_range-requires
 one_in_range-requires c =
     (c.requires.0, search rules, small_first c.args.levels.now c.requires.3)

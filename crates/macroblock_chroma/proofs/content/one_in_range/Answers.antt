@@ -1,11 +1,10 @@
+-- `macroblock_chroma::content::one_in_range` meets its contract: the DC values, then the AC. Assumes nothing.
 use mathlib.Core.Path.{sym, ap, ◌∙◌}
 use Prim.Native.Nat.{ℕ}
-use borrow.Author.Rules.{rules}
 use lib.Dec.{eqb}
 use Rattle.macroblock_chroma.specs.Fine.{in_range}
 use Rattle.macroblock_chroma.proofs.content.one_in_range.Goals as goal
 
--- `macroblock_chroma::content::one_in_range` meets its contract: the DC values, then the AC. Assumes nothing.
 pub returns-then-dc_fits8 : goal.returns-then-dc_fits8
 unfolding in_range
 returns-then-dc_fits8 c =

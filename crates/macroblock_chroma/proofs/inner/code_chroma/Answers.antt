@@ -55,8 +55,7 @@ pub write_chroma-requires-clause-in_chroma_in_bounds : goal.write_chroma-require
 write_chroma-requires-clause-in_chroma_in_bounds c =
     let a = c.args in
     let cb_handed = to_z-of_z w32 a.cb_offset c.ranges.cb_offset in
-    let cr_handed = to_z-of_z w32 a.cr_offset c.ranges.cr_offset in
-    (
+    let cr_handed = to_z-of_z w32 a.cr_offset c.ranges.cr_offset in (
       c.requires.cb_len.2,
       subst (λ (z : ℤ). SFits w8 z) (sym cb_handed) (offset_fits a.cb_offset c.requires.among.2),
       subst (λ (z : ℤ). SFits w8 z) (sym cr_handed) (offset_fits a.cr_offset c.requires.among.3),
@@ -75,8 +74,7 @@ write_chroma-requires-clause-levels_len c =
     let x = levels_made a.layout a.m a.cb.now a.cb_out.now _ p.chosen planes.cbs.is p.cb_shown in
     let y = levels_made a.layout a.m a.cr.now a.cr_out.now _ p.chosen planes.crs.is p.cr_shown in
     let levels : c.code_both.new.levels ≡ cb_own a.layout a.qp a.cb_offset a.cr_offset original a.m before ++ cr_own a.layout a.qp a.cb_offset a.cr_offset original a.m before =
-    c.code_both.ensures.levels_after ∙ (λ i. x i ++ y i) in
-    (
+    c.code_both.ensures.levels_after ∙ (λ i. x i ++ y i) in (
       ap length levels ∙ length_both a.layout a.qp a.cb_offset a.cr_offset original a.m before,
       λ k. subst (λ (l : List ℤ). SFits w16 (get_or l k (pos 0))) (sym levels)
           (both_fit a.layout a.qp a.cb_offset a.cr_offset original a.m before

@@ -1,4 +1,4 @@
--- `macroblock_chroma::inner::rebuild_chroma` meets its contract: both quantizers, then both planes. Assumes nothing.
+-- `macroblock_chroma::inner::rebuild_chroma` meets its contract: both quantizers, the mode and the levels of the record. Assumes nothing.
 use mathlib.Core.Path.{sym, subst, ◌∙◌}
 use native.Mathlib.Omega.{arith}
 use borrow.Author.Rules.{rules}

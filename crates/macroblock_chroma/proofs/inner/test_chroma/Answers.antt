@@ -55,7 +55,7 @@ returns-then-not-both_in_range c =
     c.permitted.ensures ∙ (λ i. permitted (flags i) (c.chroma_mode.ensures i)) in
     let e = c.both_levels.ensures in
     let ranged : c.both_in_range.result
-        ≡ (in_range (cb_quantizer c.args.qp c.args.part.now) (cb_levels_in c.args.part.now) && in_range (cr_quantizer c.args.qp c.args.part.now) (cr_levels_in c.args.part.now)) =
+    ≡ (in_range (cb_quantizer c.args.qp c.args.part.now) (cb_levels_in c.args.part.now) && in_range (cr_quantizer c.args.qp c.args.part.now) (cr_levels_in c.args.part.now)) =
     c.both_in_range.ensures ∙ (λ i. in_range (planes.cbs.is i) (take 64 (e i)) && in_range (planes.crs.is i) (drop 64 (e i))) in
     sym (range_far_chroma _ _ _ _ c.args.part.now planes.cbs.allowed planes.crs.allowed (sym tested ∙ c.if-not-permitted.false) (sym ranged ∙ c.if-not-both_in_range.true))
 
@@ -71,7 +71,7 @@ returns c =
     c.permitted.ensures ∙ (λ i. permitted (flags i) (c.chroma_mode.ensures i)) in
     let e = c.both_levels.ensures in
     let ranged : c.both_in_range.result
-        ≡ (in_range (cb_quantizer c.args.qp c.args.part.now) (cb_levels_in c.args.part.now) && in_range (cr_quantizer c.args.qp c.args.part.now) (cr_levels_in c.args.part.now)) =
+    ≡ (in_range (cb_quantizer c.args.qp c.args.part.now) (cb_levels_in c.args.part.now) && in_range (cr_quantizer c.args.qp c.args.part.now) (cr_levels_in c.args.part.now)) =
     c.both_in_range.ensures ∙ (λ i. in_range (planes.cbs.is i) (take 64 (e i)) && in_range (planes.crs.is i) (drop 64 (e i))) in
     let b = both_true (in_range _ _) (in_range _ _) (sym ranged ∙ c.if-not-both_in_range.false) in
     sym (content_fine_chroma (record { cb_offset = planes.cbs.allowed; cr_offset = planes.crs.allowed; mode = sym tested ∙ c.if-not-permitted.false; cb_range = b.0; cr_range = b.1 }) c.args.place)

@@ -1,8 +1,7 @@
-use borrow.Author.Rules.{rules}
+-- `macroblock_chroma::rebuild::rebuild_one` meets its contract: gathered, predicted, stored. Assumes nothing.
 use Rattle.macroblock_chroma.proofs.Making.{turn_made}
 use Rattle.macroblock_chroma.proofs.rebuild.rebuild_one.Goals as goal
 
--- `macroblock_chroma::rebuild::rebuild_one` meets its contract: gathered, predicted, stored. Assumes nothing.
 pub returns : goal.returns
 returns c =
     let a = c.args in

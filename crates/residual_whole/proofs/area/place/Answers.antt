@@ -1,9 +1,8 @@
+-- `residual_whole::area::place` meets its contract: the row and the column of a block are those of its place. Assumes nothing.
 use mathlib.Core.Path.{◌≡◌}
-use Prim.Native.Nat.{ℕ, ◌+◌, ◌*◌, ◌/◌, ◌<◌, ◌≤◌}
-use native.Mathlib.Nat.{mul-le-mul}
-use native.Mathlib.Omega.{arith}
+use Prim.Native.Nat.{◌+◌, ◌*◌, ◌/◌}
 use Rattle.residual_whole.specs.Area.{raster_place}
-use Rattle.residual_whole.proofs.Blocks.{square, place_lt}
+use Rattle.residual_whole.proofs.Blocks.{place_lt}
 use Rattle.residual_whole.proofs.area.place.Goals as goal
 
 pub returns : goal.returns

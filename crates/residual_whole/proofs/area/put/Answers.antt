@@ -1,12 +1,7 @@
-use mathlib.Core.Path.{◌∙◌}
-use Prim.Native.Nat.{◌*◌}
-use native.Mathlib.Omega.{arith}
-use borrow.Author.Rules.{rules}
-use Rattle.picture.specs.Plane.{stored}
-use Rattle.residual_whole.proofs.Blocks.{square, room}
+-- `residual_whole::area::put` meets its contract. Assumes nothing.
+use Rattle.residual_whole.proofs.Blocks.{room}
 use Rattle.residual_whole.proofs.area.put.Goals as goal
 
--- `residual_whole::area::put` meets its contract. Assumes nothing.
 pub store_at-requires : goal.store_at-requires
 store_at-requires c =
     let r = room c.args.s c.args.b c.requires.0 c.requires.2 c.requires.1 in

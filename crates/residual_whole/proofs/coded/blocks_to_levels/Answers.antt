@@ -1,11 +1,9 @@
 -- `residual_whole::coded::blocks_to_levels` meets its contract: a loop over the blocks. Assumes nothing.
-use mathlib.Core.Path.{sym, ◌∙◌}
 use native.Mathlib.Omega.{arith}
 use borrow.Author.Rules.{rules}
 use mir.Syntax.{w32}
 use Rattle.whole.proofs.Bound.{argument}
-use Rattle.residual_whole.proofs.Blocks.{square}
-use Rattle.residual_whole.proofs.Levels.{coding_none, coding_more, coding_dc, coding_ac}
+use Rattle.residual_whole.proofs.Levels.{coding_none, coding_more, coding_dc}
 use Rattle.residual_whole.proofs.coded.blocks_to_levels.Goals as goal
 
 pub loop-b-init : goal.loop-b-init

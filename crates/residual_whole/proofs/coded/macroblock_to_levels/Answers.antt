@@ -1,5 +1,5 @@
 -- `residual_whole::coded::macroblock_to_levels` meets its contract: the blocks coded, then the DC levels in front. Assumes nothing.
-use mathlib.Core.Path.{◌≡◌, sym, ap, subst, ◌∙◌}
+use mathlib.Core.Path.{◌≡◌, ap, ◌∙◌}
 use Prim.Native.Nat.{ℕ}
 use lib.ListN.{length}
 use Rattle.dc.specs.Dc.{dc_levels}

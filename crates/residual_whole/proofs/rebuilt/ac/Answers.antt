@@ -4,11 +4,11 @@ use mathlib.Core.List.{List, ◌∷◌}
 use Prim.Native.Nat.{ℕ, ◌<◌}
 use native.Mathlib.Omega.{arith}
 use borrow.Author.Rules.{rules}
-use lib.IntN.{ℤ, pos}
+use lib.IntN.{pos}
 use lib.ListN.{get_or, replicate}
 use mir.Syntax.{w32}
 use mir.ValLaws.{to_z-of_z}
-use Rattle.lists.proofs.Tab.{Filling, filling_none, filling_more, filling_done}
+use Rattle.lists.proofs.Tab.{filling_none, filling_more, filling_done}
 use Rattle.quantizer.specs.Tables.{step_of}
 use Rattle.quantizer.proofs.Tables.{zigzag_permutes}
 use Rattle.residual.specs.Order.{in_places}

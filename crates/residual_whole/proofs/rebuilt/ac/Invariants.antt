@@ -1,19 +1,11 @@
-use mathlib.Core.Path.{◌≡◌, refl, ap, ◌∙◌}
+-- `residual_whole::rebuilt::ac` meets its contract: a fill whose place 0 stands at the start. Assumes nothing.
 use mathlib.Core.List.{List, ◌∷◌}
 use Prim.Native.Nat.{ℕ, ◌-◌, ◌<◌}
-use native.Mathlib.Omega.{arith}
-use borrow.Author.Rules.{rules}
 use lib.IntN.{ℤ, pos}
-use lib.ListN.{get_or, replicate}
-use mir.Syntax.{w32}
-use mir.ValLaws.{to_z-of_z}
-use Rattle.lists.proofs.Tab.{Filling, filling_none, filling_more, filling_done}
+use lib.ListN.{get_or}
+use Rattle.lists.proofs.Tab.{Filling}
 use Rattle.quantizer.specs.Tables.{step_of}
-use Rattle.quantizer.proofs.Tables.{zigzag_permutes}
-use Rattle.residual.specs.Order.{in_places}
 use Rattle.residual_whole.specs.Rebuilt.{ac_in}
-use Rattle.residual_whole.proofs.Blocks.{Square, square}
-use Rattle.residual_whole.proofs.Samples.{ac_step, step_some}
 use Rattle.residual_whole.proofs.rebuilt.ac.Given as goal
 
 -- the level of a raster place

@@ -1,6 +1,6 @@
+-- `residual_whole::rebuilt::ac_rescaled` meets its contract. Assumes nothing.
 use mathlib.Core.Path.{sym, ap, subst, ◌∙◌}
 use mathlib.Core.List.{List}
-use borrow.Author.Rules.{rules}
 use lib.IntN.{ℤ, pos}
 use lib.ListN.{set}
 use Rattle.whole.specs.Bounds.{Each}
@@ -10,7 +10,6 @@ use Rattle.residual_whole.specs.Rebuilt.{ac_numbers}
 use Rattle.residual_whole.proofs.Samples.{places_small}
 use Rattle.residual_whole.proofs.rebuilt.ac_rescaled.Goals as goal
 
--- `residual_whole::rebuilt::ac_rescaled` meets its contract. Assumes nothing.
 pub rescaled-numbers-requires : goal.rescaled-numbers-requires
 rescaled-numbers-requires c =
     (c.requires.1, subst (Each 32768) (sym c.ac.ensures) (places_small c.args.s c.args.levels.now c.args.b c.requires.3))

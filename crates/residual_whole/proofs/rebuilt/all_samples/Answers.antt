@@ -1,9 +1,9 @@
+-- `residual_whole::rebuilt::all_samples` meets its contract: a loop over the blocks. Assumes nothing.
 use mathlib.Core.Path.{◌≡◌, sym, ap, subst, ◌∙◌}
 use mathlib.Core.Bool.{true}
 use mathlib.Core.List.{List}
-use Prim.Native.Nat.{ℕ, ◌-◌}
+use Prim.Native.Nat.{ℕ}
 use native.Mathlib.Omega.{arith}
-use borrow.Author.Rules.{rules}
 use lib.IntN.{ℤ, pos}
 use lib.ListN.{length, get_or}
 use mir.Syntax.{w32}
@@ -14,7 +14,7 @@ use Rattle.whole.proofs.Steps.{each_at}
 use Rattle.residual.specs.Rebuild.{rebuilt_samples, rescaled_with_dc}
 use Rattle.residual_whole.specs.Area.{Sided, part_in, raster_place}
 use Rattle.residual_whole.specs.Rebuilt.{ac_in, values_in, dc_value_of, block_samples, whole_samples, dc_fits}
-use Rattle.residual_whole.proofs.Blocks.{square, Putting, putting_none, putting_more, putting_done}
+use Rattle.residual_whole.proofs.Blocks.{putting_more, putting_done}
 use Rattle.residual_whole.proofs.Samples.{length_values, values_fit, ac_numbers_fit}
 use Rattle.residual_whole.proofs.rebuilt.all_samples.Goals as goal
 

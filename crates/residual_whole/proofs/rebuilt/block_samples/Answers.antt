@@ -1,3 +1,4 @@
+-- `residual_whole::rebuilt::block_samples` meets its contract: the DC value in the place of the 0, or nothing but zeros. Assumes nothing.
 use mathlib.Core.Path.{◌≡◌, sym, ap, subst, ◌∙◌}
 use mathlib.Core.List.{List, ◌∷◌}
 use Prim.Native.Nat.{ℕ, ◌*◌}

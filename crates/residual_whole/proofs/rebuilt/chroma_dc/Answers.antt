@@ -1,7 +1,5 @@
-use mathlib.Core.Path.{sym, ap, subst, ◌∙◌}
-use borrow.Author.Rules.{rules}
-use Rattle.whole.specs.Bounds.{Each}
-use Rattle.whole.proofs.Lists.{each_take}
+-- `residual_whole::rebuilt::chroma_dc` meets its contract. Assumes nothing.
+use mathlib.Core.Path.{ap, ◌∙◌}
 use Rattle.dc.specs.Dc.{chroma_values}
 use Rattle.residual_whole.specs.Rebuilt.{dc_values, values_in}
 use Rattle.residual_whole.proofs.rebuilt.chroma_dc.Goals as goal
