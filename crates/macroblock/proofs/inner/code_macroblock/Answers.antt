@@ -111,7 +111,7 @@ write_fours-requires c =
       levels_len = (
         ap length e ∙ length_blocks_from a.layout a.quantizer.qp a.plane.now a.m a.rebuilt.now,
         λ k. subst (λ (l : List ℤ). SFits w16 (get_or l k (pos 0))) (sym e)
-        (levels_fit4 a.layout a.quantizer.qp c.requires.among.1 a.plane.now (bytes_known _ c.type_inv.plane) a.m a.rebuilt.now (bytes_known _ own) k),
+            (levels_fit4 a.layout a.quantizer.qp c.requires.among.1 a.plane.now (bytes_known _ c.type_inv.plane) a.m a.rebuilt.now (bytes_known _ own) k),
       );
     }
 

@@ -15,6 +15,5 @@ bad part b = not (range_holds part b)
 abbrev pub invariant-loop-k : goal.invariant-loop-k
 invariant-loop-k l = (l.place ≡ 16) × (l.numbers ≡ in_zigzag (rescaled_in l.part l.b)) × Searching (wide_at (in_zigzag (rescaled_in l.part l.b))) 16 l.k
 
-
 abbrev pub invariant-blocks-2 : goal.invariant-blocks-2
 invariant-blocks-2 l = (l.place ≡ 16) × Searching (bad l.part) 16 l.b

@@ -1,3 +1,4 @@
+-- `macroblock4::content::rescaled` meets its contract. Assumes nothing.
 use mathlib.Core.Path.{sym, ap, subst, ◌∙◌}
 use Rattle.whole.specs.Bounds.{Each}
 use Rattle.residual.specs.Order.{in_places}
@@ -7,7 +8,6 @@ use Rattle.macroblock4.specs.Content.{rescaled_in}
 use Rattle.macroblock4.proofs.Contents.{levels_small}
 use Rattle.macroblock4.proofs.content.rescaled.Goals as goal
 
--- `macroblock4::content::rescaled` meets its contract. Assumes nothing.
 pub rescaled-requires : goal.rescaled-requires
 rescaled-requires c =
     let e = c.in_places.ensures ∙ ap in_places c.block_levels-levels.ensures in

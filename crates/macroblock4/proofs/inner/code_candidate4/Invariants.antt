@@ -1,7 +1,6 @@
 use Rattle.macroblock4.proofs.Coding.{BlocksCoded}
 use Rattle.macroblock4.proofs.inner.code_candidate4.Given as goal
 
--- `macroblock4::inner::code_candidate4` meets its contract: a loop over the sixteen blocks, each with its part of the levels. Assumes nothing.
 abbrev pub invariant-loop-b : goal.invariant-loop-b
 invariant-loop-b l =
     BlocksCoded l.layout l.quantizer.qp l.plane l.m l.initial.rebuilt l.levels l.rebuilt l.modes l.sad l.b

@@ -6,7 +6,6 @@ use Rattle.picture.specs.Whole.{with_whole}
 use Rattle.macroblock4.specs.Rebuild.{block_from}
 use Rattle.macroblock4.proofs.inner.rebuild_beside4.Given as goal
 
--- `macroblock4::inner::rebuild_beside4` meets its contract: a loop over the turns of its blocks. Assumes nothing.
 abbrev pub invariant-loop-b : goal.invariant-loop-b
 invariant-loop-b l =
     (length l.own ≡ 256) × Folding 16 (turn 4 (block_from l.layout l.part) l.layout l.m) (with_whole 16 l.layout l.m l.initial.own l.plane) (with_whole 16 l.layout l.m l.own l.plane) l.b

@@ -33,8 +33,8 @@ returns c =
     c.gather_over-neighbours.ensures c.fill.ensures in
     let made : c.if-all_zero.samples ≡ rebuilt_samples p (rescaled_in a.part.now a.b) =
     elim c.if-all_zero.branch [
-      then-all_zero w ↦ w.samples-is ∙ zero_samples a.part.now a.b (c.all_zero.ensures.0 w.if-all_zero.true) _ sixteen bytes
-    | else-all_zero w ↦ w.samples-is ∙ w.samples-samples.ensures ∙ ap (rebuilt_samples p) w.rescaled.ensures
+      | then-all_zero w ↦ w.samples-is ∙ zero_samples a.part.now a.b (c.all_zero.ensures.0 w.if-all_zero.true) _ sixteen bytes
+      | else-all_zero w ↦ w.samples-is ∙ w.samples-samples.ensures ∙ ap (rebuilt_samples p) w.rescaled.ensures
     ] in
     let stores = c.store_at.ensures ∙ (λ i. stored 4 16 (4 * c.column_inside-x.ensures.0 i) (4 * c.row_inside-y.ensures.0 i) c.if-all_zero.samples a.own.now) in
     block_made c.requires.among.0 a.part.now a.own.now a.plane.now c.requires.among.3 c.requires.among.2 c.flags-flags.ensures c.gather_over-neighbours.ensures
