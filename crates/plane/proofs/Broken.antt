@@ -19,7 +19,6 @@ use borrow.Fn.Kinds.{Dens, res_t, ended_of}
 use lib.Dec.{eqb}
 use lib.ListN.{length}
 use Rattle.lists.specs.Chain.{Verdict, pass, stop, chain, RefusedWith}
-use Rattle.lists.specs.Parts.{parts}
 use Rattle.lists.proofs.Chain.{same_stop, chain_exactly_if, chain_passed, chain_refused}
 use Rattle.refusal.specs.declared.Answer.TheVariants.{Refused}
 use Rattle.refusal.specs.declared.Fault.{Fault}
