@@ -40,7 +40,7 @@ module _ (width height rows qp : ℕ) (cb_offset cr_offset : ℤ) (luma cb cr fi
     colour_coder_decoder_agree bytes cbBytes crBytes out outCb outCr room roomCb roomCr =
         let o = frame_outcome width height rows qp cb_offset cr_offset luma cb cr file lumaOut cbOut crOut used file' lumaOut' cbOut' crOut' c in
         let d : DecodesPicture (take used file') out outCb outCr Colour lumaOut' cbOut' crOut' =
-        rw (o.filed, o.lumas, o.cbs, o.crs)
+        coe 0 1 (i. DecodesPicture (sym o.filed i) out outCb outCr Colour (sym o.lumas i) (sym o.cbs i) (sym o.crs i))
         (own_frame_decodes width height rows qp cb_offset cr_offset luma (pair cb cr) o.size o.sliced o.legal o.cb_inside o.cr_inside bytes
         (record { cbs = cbBytes; crs = crBytes }) out outCb outCr room roomCb roomCr) in
         record {
