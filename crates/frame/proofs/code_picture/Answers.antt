@@ -82,8 +82,7 @@ code_frame-requires-clause-sound c =
     let number = accepted_number tests a.qp answered c.in-Legal.is in
     let told =
     frame_told l a.qp a.cb_offset a.cr_offset (length a.luma.now) (length a.cb.now) (length a.cr.now) (length a.file.now)
-    (length a.luma_out.now) (length a.cb_out.now) (length a.cr_out.now) passed in
-    (
+    (length a.luma_out.now) (length a.cb_out.now) (length a.cr_out.now) passed in (
       sound_slices _ _ _ sized sliced,
       (rows_of_law _ _ sliced).1,
       rw number told.legal,

@@ -10,14 +10,12 @@ use mir.Syntax.{w32}
 use mir.Val.{to_z, of_z}
 use mir.ValLaws.{to_z-of_z}
 use Rattle.lists.specs.Parts.{over}
-use Rattle.lists.proofs.Over.{length_over}
 use Rattle.whole.specs.Notation.{minus}
 use Rattle.whole.specs.Range.{inside}
 use Rattle.record.specs.Kinds.{in_fours, in_chroma, length_of}
-use Rattle.head.proofs.Back.{length_head, long_most}
+use Rattle.head.proofs.Back.{long_most}
 use Rattle.picture.specs.Both.{pair}
 use Rattle.picture.proofs.Plane.{samples_fit}
-use Rattle.plane.specs.Code.{head_for}
 use Rattle.plane.proofs.Coding.{same_area}
 use Rattle.frame.specs.Code.{frame_from, both_from}
 use Rattle.frame.proofs.CodedFrame.{length_frame_to, length_records_from}
@@ -65,8 +63,7 @@ slice_bounds-code_records-start c =
 
 pub code_records-used-requires-clause-among : goal.code_records-used-requires-clause-among
 code_records-used-requires-clause-among c =
-    let p = c.requires.sound in
-    (
+    let p = c.requires.sound in (
       record { sound = p.0; macroblock = c.loop-m-test.true; block = omega arith },
       p.2,
       ap (inside (minus 12) (pos 12)) (to_z-of_z w32 c.args.cb_offset c.ranges.cb_offset) ∙ p.3,

@@ -1,5 +1,5 @@
 -- `frame::tests::quantizers_legal` meets its contract: the quantizer's own test, then the two offsets. Assumes nothing.
-use mathlib.Core.Path.{refl, sym, ap, ◌∙◌}
+use mathlib.Core.Path.{sym, ap, ◌∙◌}
 use lib.IntN.{pos}
 use mir.Syntax.{w32}
 use mir.ValLaws.{to_z-of_z}
