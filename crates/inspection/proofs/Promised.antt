@@ -6,7 +6,6 @@
 --     decoded_passes, decoded_accepted     a plane that the decoder left of a file is accepted with it
 -- Assumes nothing.
 use mathlib.Core.Path.{◌≡◌, refl, sym, ap, subst, ◌∙◌}
-use mathlib.Core.Bool.{Bool, true, false}
 use mathlib.Core.List.{List, [], ◌∷◌, ◌++◌}
 use mathlib.Core.Logic.{◌↔◌, inl, inr}
 use Prim.Native.Nat.{ℕ, ◌<◌}
@@ -15,9 +14,7 @@ use borrow.Author.Tests.{eqb-true, eq-eqb, eqb-false}
 use contract.Lifetimes.{Lfts}
 use denote.Triple.Clauses.{AtExit}
 use borrow.Fn.Kinds.{Dens, res_t, ended_of}
-use lib.Dec.{eqb}
-use lib.ListN.{length, take}
-use Rattle.lists.specs.Bytes.{Bytes}
+use lib.ListN.{length}
 use Rattle.lists.specs.Chain.{Verdict, pass, stop, chain, RefusedWith}
 use Rattle.lists.proofs.Chain.{chain_exactly_if, scan_found}
 use Rattle.lists.proofs.Chains.{chain_front, chain_behind}

@@ -9,7 +9,6 @@ use Prim.Native.Nat.{ℕ, zero, suc, ◌<◌}
 use native.Mathlib.Omega.{arith}
 use lib.Dec.{eqb}
 use Rattle.lists.specs.Tab.{tab, grid}
-use Rattle.picture.specs.declared.Layout.{Layout}
 use Rattle.picture.specs.Plane.{layout_of, block_at}
 use Rattle.inspection.specs.Inspect.{differ_at, first_differing}
 use Rattle.inspection.proofs.Differences.{differing_at}
