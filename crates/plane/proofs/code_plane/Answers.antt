@@ -1,5 +1,5 @@
 -- `plane::code_plane` meets its contract: a law for each answer. Assumes nothing.
-use mathlib.Core.Path.{◌≡◌, refl, sym, ◌∙◌}
+use mathlib.Core.Path.{◌≡◌, refl, ◌∙◌}
 use mathlib.Core.Bool.{true}
 use Prim.Native.Nat.{ℕ, ◌*◌, ◌≤◌}
 use native.Mathlib.Omega.{arith}
@@ -17,22 +17,22 @@ small width height rows s n = omega (arith, samples_fit (sound_slices width heig
 
 pub overflow_mul-count : goal.overflow_mul-count
 overflow_mul-count c =
-    let f = small _ _ _ (sym c.size_holds.ensures ∙ c.if-not-size_holds.false) (sym c.rows_hold.ensures ∙ c.if-not-rows_hold.false) in
+    let f = small c.args.width c.args.height c.args.rows (cc) (cc) in
     omega arith
 
 pub overflow_mul-count-2 : goal.overflow_mul-count-2
 overflow_mul-count-2 c =
-    let f = small _ _ _ (sym c.size_holds.ensures ∙ c.if-not-size_holds.false) (sym c.rows_hold.ensures ∙ c.if-not-rows_hold.false) in
+    let f = small c.args.width c.args.height c.args.rows (cc) (cc) in
     omega arith
 
 pub area_length-requires : goal.area_length-requires
-area_length-requires c = sound_slices _ _ _ (sym c.size_holds.ensures ∙ c.if-not-size_holds.false) (sym c.rows_hold.ensures ∙ c.if-not-rows_hold.false)
+area_length-requires c = sound_slices c.args.width c.args.height c.args.rows (cc) (cc)
 
 pub code_file-requires-clause-sound : goal.code_file-requires-clause-sound
 code_file-requires-clause-sound c =
     let q = built_legal _ c.in-Legal.ensures refl in
-    (sound_slices _ _ _ (sym c.size_holds.ensures ∙ c.if-not-size_holds.false) (sym c.rows_hold.ensures ∙ c.if-not-rows_hold.false), rw q.0 q.1, c.if-plane-count.false)
+    (sound_slices c.args.width c.args.height c.args.rows (cc) (cc), rw q.0 q.1, c.if-plane-count.false)
 
 pub code_file-requires-clause-layout_in_bounds : goal.code_file-requires-clause-layout_in_bounds
 code_file-requires-clause-layout_in_bounds c =
-    (omega (arith, c.if-file-area_length.false ∙ c.area_length.ensures), search rules, (rows_of_law _ _ (sym c.rows_hold.ensures ∙ c.if-not-rows_hold.false)).1)
+    (omega (arith, c.if-file-area_length.false ∙ c.area_length.ensures), search rules, (rows_of_law c.args.height c.args.rows (cc)).1)
