@@ -2,8 +2,8 @@
 --     fb_code_block_near     where the word's low byte is 0, what `fb_code_block` leaves is within the promise of the samples lent
 --     fb_promise_kept        and no farther off than what a call of `fb_promised_distance` with the same QP sends back
 -- a holds the arguments of `fb_code_block`'s call, w is its word and e what is lent at its exit; with a stroke those of the other call. The QP
--- is a.0, the neighbours are a.1.1.0, the samples a .1 .1 .1 .0, and what is rebuilt stands in e.1.1.1.1.1.0.
--- That neighbours and samples hold bytes is a premise: a slice of `u8` does, but its contract speaks of a list of numbers (`lists/proofs/Bytes`).
+-- is a.0, the neighbours are a.1.1.0, the samples a.1.1.1.0, and what is rebuilt stands in e.1.1.1.1.1.0.
+-- That neighbours and samples hold bytes is a premise, and what `fb_code_block` promises too (`bytes`).
 -- Assumes nothing.
 use mathlib.Core.Path.{◌≡◌, ap, ◌∙◌}
 use mathlib.Core.List.{List}

@@ -65,11 +65,11 @@ module _ (κs : Lfts 4) (a : Dens κs quality_sheet.ps) where
   module _ (w : (res_t quality_sheet.r κs).Denot) (e : AtExit (ended_of 4 quality_sheet.ps quality_sheet.r) κs) (learnt : quality_sheet_reads.Learnt κs a w e) where
     -- a word whose low byte is 0
     passed : w % 256 ≡ 0 → chain (write_tests width height original rebuilt map out) ≡ pass
-    passed d = passed_word (write_tests width height original rebuilt map out) (sheet_value (given_of (layout_of width height) original rebuilt map)) learnt.word d
+    passed d = passed_word (write_tests width height original rebuilt map out) (sheet_value (given_of (layout_of width height) original rebuilt map)) learnt.sends.word d
 
     -- and its value
     valued : chain (write_tests width height original rebuilt map out) ≡ pass → w ≡ 256 * sheet_value (given_of (layout_of width height) original rebuilt map)
-    valued v = learnt.word ∙ ap (λ (u : Verdict Refusal). word_of u (sheet_value (given_of (layout_of width height) original rebuilt map))) v
+    valued v = learnt.sends.word ∙ ap (λ (u : Verdict Refusal). word_of u (sheet_value (given_of (layout_of width height) original rebuilt map))) v
 
     -- "With nothing present the answer is 'no sheet', and exactly then"
     pub fb_no_sheet_exactly_if : (w ≡ 0) ↔ (AllPass (write_tests width height original rebuilt map out) × ((m : ℕ) → m < width * height → get_or map m 0 ≡ 0))
@@ -97,7 +97,7 @@ module _ (κs : Lfts 4) (a : Dens κs quality_sheet.ps) where
         let s = value_some g (omega (arith, valued v, z)) in
         let o = given_outcome width height original rebuilt map t.0 (sym s.1) in (
           s.0,
-          learnt.wrote ∙ (λ i. written (v i) (area_of (s.1 i) out) out),
+          learnt.sends.wrote ∙ (λ i. written (v i) (area_of (s.1 i) out) out),
           subst (λ (u : Sheet). OfEach (layout_of width height) original rebuilt map u (λ mean sum. mean ≡ rounded_once sum (sample_count (layout_of width height) map))) (sym o.is)
               (each_rounded (layout_of width height) original rebuilt map own back (omega (arith, samples_fit (sound_of width height t.0))) o.some),
         )
@@ -119,4 +119,4 @@ fb_absent_has_no_value κs κs' a a' w w' e e' sw sh sm so o b p q =
     let q' = coe 0 1 (i. QualitySheetSends (sw i) (sh i) (original κs' a') (rebuilt κs' a') (sm i) (so i) w' e'.1.1.1.1.1.0.now) q in
     let v : chain (write_tests (width κs a) (height κs a) (original κs a) (rebuilt κs a) (map κs a) (out κs a)) ≡ chain (write_tests (width κs a) (height κs a) (original κs' a') (rebuilt κs' a') (map κs a) (out κs a)) = rw (o.long, b.long) in
     let g = given_same (layout_of (width κs a) (height κs a)) (map κs a) (original κs a) (rebuilt κs a) (original κs' a') (rebuilt κs' a') o b in
-    (p.word ∙ (λ i. word_of (v i) (sheet_value (g i))) ∙ sym q'.word, p.wrote ∙ (λ i. written (v i) (area_of (g i) (out κs a)) (out κs a)) ∙ sym q'.wrote)
+    (p.sends.word ∙ (λ i. word_of (v i) (sheet_value (g i))) ∙ sym q'.sends.word, p.sends.wrote ∙ (λ i. written (v i) (area_of (g i) (out κs a)) (out κs a)) ∙ sym q'.sends.wrote)

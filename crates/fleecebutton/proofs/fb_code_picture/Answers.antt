@@ -3,7 +3,6 @@ use mathlib.Core.Path.{◌≡◌}
 use mathlib.Core.List.{List}
 use Prim.Native.Nat.{ℕ, ◌<◌}
 use native.Mathlib.Omega.{arith}
-use borrow.Author.Rules.{rules}
 use lib.IntN.{ℤ}
 use mir.Syntax.{w32}
 use mir.ValLaws.{to_z-of_z}
@@ -19,8 +18,7 @@ use Rattle.frame.proofs.CodedFrame.{length_coded_frame}
 use Rattle.frame.proofs.FrameOutcome.{frame_outcome}
 use Rattle.fleecebutton.specs.Word.{places}
 use Rattle.fleecebutton.proofs.Words.{value_sent}
-use Rattle.fleecebutton.proofs.fb_code_picture.Statement.{statement}
-use Rattle.fleecebutton.proofs.fb_code_picture.Tie as tie
+use Rattle.fleecebutton.proofs.fb_code_picture.Goals as goal
 
 -- the file of the largest picture is far below what a word can tell
 small : {width height rows qp : ℕ} {cb_offset cr_offset : ℤ} {luma cb cr file lumaOut cbOut crOut : List ℕ} (r : CodedPlane) {file' lumaOut' cbOut' crOut' : List ℕ}
@@ -31,43 +29,24 @@ small {width} {height} {rows} {qp} {cb_offset} {cr_offset} {luma} {cb} {cr} {fil
     omega (arith, o.bytes, length_coded_frame (in_slices width height rows) qp cb_offset cr_offset luma (record { cb = cb; cr = cr }), samples_fit (sound_slices width height rows o.size o.sliced), long_most width height rows)
 small (Refused r) p = omega arith
 
-of-plane-requires : tie.Need-of-plane-requires
-of-plane-requires c κs = small _ c.before.before.before.before.before.before.before.before.code-picture.ensures
+pub of_plane-requires : goal.of_plane-requires
+of_plane-requires c = small _ c.code_picture.ensures
 
 -- the offsets come back from the call as the same numbers
-same-offsets : {width height rows qp : ℕ} {x y z w : ℤ} {luma cb cr file lumaOut cbOut crOut : List ℕ} {r : CodedPlane} {file' lumaOut' cbOut' crOut' : List ℕ} → x ≡ y → z ≡ w
+same_offsets : {width height rows qp : ℕ} {x y z w : ℤ} {luma cb cr file lumaOut cbOut crOut : List ℕ} {r : CodedPlane} {file' lumaOut' cbOut' crOut' : List ℕ} → x ≡ y → z ≡ w
     → CodesPicture width height rows qp x z luma cb cr file lumaOut cbOut crOut r file' lumaOut' cbOut' crOut'
     → CodesPicture width height rows qp y w luma cb cr file lumaOut cbOut crOut r file' lumaOut' cbOut' crOut'
-same-offsets {width} {height} {rows} {qp} {x} {y} {z} {w} {luma} {cb} {cr} {file} {lumaOut} {cbOut} {crOut} {r} {file'} {lumaOut'} {cbOut'} {crOut'} e g p =
+same_offsets {width} {height} {rows} {qp} {x} {y} {z} {w} {luma} {cb} {cr} {file} {lumaOut} {cbOut} {crOut} {r} {file'} {lumaOut'} {cbOut'} {crOut'} e g p =
     coe 0 1 (i. CodesPicture width height rows qp (e i) (g i) luma cb cr file lumaOut cbOut crOut r file' lumaOut' cbOut' crOut') p
 
-returns : tie.Need-returns
+pub returns : goal.returns
 returns c =
-    let C = c.before.before.before.before.before.before.before.before.before in
-    let S = C.before.before.before.before.before.before.before.before.before in
-    let s = S.before.before.before in
-    let p = same-offsets (to_z-of_z w32 s.args.cb-offset s.ranges.cb-offset) (to_z-of_z w32 s.args.cr-offset s.ranges.cr-offset) C.code-picture.ensures in
+    let p = same_offsets (to_z-of_z w32 c.args.cb_offset c.ranges.cb_offset) (to_z-of_z w32 c.args.cr_offset c.ranges.cr_offset) c.code_picture.ensures in
     record {
-      word = value_sent (λ (n : ℕ). n) _ _ _ p.says p.used c.of-plane.ensures;
+      word = value_sent (λ (n : ℕ). n) _ _ _ p.says p.used c.of_plane.ensures;
       filed = p.filed;
       lumas = p.lumas;
       cbs = p.cbs;
       crs = p.crs;
-      bytes = (
-        bytes_known s.args.luma.now S.before.before.shared-slice-known.given,
-        bytes_known s.args.cb.now S.before.shared-slice-known2.given,
-        bytes_known s.args.cr.now S.shared-slice-known3.given,
-      );
+      bytes = (bytes_known _ c.type_inv.luma, bytes_known _ c.type_inv.cb, bytes_known _ c.type_inv.cr);
     }
-
-pub fb-code-picture-spec : {M : Type 1} → statement M
-fb-code-picture-spec =
-    tie.close
-    (tie.spec
-    (λ c κs. search rules)
-    of-plane-requires
-    (λ c. search rules)
-    (λ c. search rules)
-    (λ c. search rules)
-    (λ c. search rules)
-    returns)

@@ -2,7 +2,6 @@
 use mathlib.Core.List.{List}
 use Prim.Native.Nat.{ℕ, ◌<◌}
 use native.Mathlib.Omega.{arith}
-use borrow.Author.Rules.{rules}
 use Rattle.lists.proofs.Bytes.{bytes_known}
 use Rattle.picture.proofs.Plane.{samples_fit}
 use Rattle.plane.specs.Code.{in_slices, bytes_used, CodesPlane}
@@ -14,8 +13,7 @@ use Rattle.plane.proofs.CodedOutcome.{outcome}
 use Rattle.plane.proofs.Entry.{sound_slices}
 use Rattle.fleecebutton.specs.Word.{places}
 use Rattle.fleecebutton.proofs.Words.{value_sent}
-use Rattle.fleecebutton.proofs.fb_code_plane.Statement.{statement}
-use Rattle.fleecebutton.proofs.fb_code_plane.Tie as tie
+use Rattle.fleecebutton.proofs.fb_code_plane.Goals as goal
 
 -- the file of the largest picture is far below what a word can tell
 small : {width height rows qp : ℕ} {plane file rebuilt : List ℕ} (r : CodedPlane) {file' rebuilt' : List ℕ}
@@ -26,22 +24,10 @@ small {width} {height} {rows} {qp} {plane} {file} {rebuilt} (Bytes used) {file'}
     omega (arith, o.bytes, length_coded_file (in_slices width height rows) qp plane, samples_fit (sound_slices width height rows o.size o.sliced), long_most width height rows)
 small (Refused r) p = omega arith
 
-of-plane-requires : tie.Need-of-plane-requires
-of-plane-requires c κs = small _ c.before.before.before.before.code-plane.ensures
+pub of_plane-requires : goal.of_plane-requires
+of_plane-requires c = small _ c.code_plane.ensures
 
-returns : tie.Need-returns
+pub returns : goal.returns
 returns c =
-    let C = c.before.before.before.before.before in
-    let S = C.before.before.before.before.before in
-    let p = C.code-plane.ensures in
-    record { word = value_sent (λ (n : ℕ). n) _ _ _ p.says p.used c.of-plane.ensures; filed = p.filed; stored = p.stored; bytes = bytes_known S.before.args.plane.now S.shared-slice-known.given }
-
-pub fb-code-plane-spec : {M : Type 1} → statement M
-fb-code-plane-spec =
-    tie.close
-    (tie.spec
-    (λ c κs. search rules)
-    of-plane-requires
-    (λ c. search rules)
-    (λ c. search rules)
-    returns)
+    let p = c.code_plane.ensures in
+    record { word = value_sent (λ (n : ℕ). n) _ _ _ p.says p.used c.of_plane.ensures; filed = p.filed; stored = p.stored; bytes = bytes_known _ c.type_inv.plane }
