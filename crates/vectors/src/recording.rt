@@ -26,7 +26,7 @@ fn count(file: &mut impl Read) -> io::Result<usize>
     ensures { IfOk result (λ n. n < 4294967296) }
 {
     let mut head = [0u8; 4];
-    file.read_exact(&mut head)?;
+    read_full(file, &mut head)?;
     Ok(recorded::inner::four_bytes(&head, 0) as usize)
 }
 
@@ -41,14 +41,32 @@ fn completes(file: &mut impl Read, frame: &mut [u8]) -> io::Result<bool>
     requires { length frame.old ≡ 36838 }
 {
     let mut head = [0u8; 4];
-    file.read_exact(&mut head)?;
+    if read_full(file, &mut head)? < 4 {
+        return Ok(false);
+    }
     let place = recorded::inner::two_bytes(&head, 0) as usize;
     let end = place + recorded::inner::two_bytes(&head, 2) as usize;
     if frame.len() < end {
         return Ok(false);
     }
-    file.read_exact(&mut frame[place..end])?;
+    read_full(file, &mut frame[place..end])?;
     Ok(place == end)
+}
+
+// Reads until the buffer is full or the recording ends, and gives how many bytes there are. A read takes one at the least, so there are no more reads
+// than bytes.
+fn read_full(file: &mut impl Read, buffer: &mut [u8]) -> io::Result<usize>
+    ensures { IfOk result (λ n. n ≤ length buffer.new) }
+{
+    let mut count = 0;
+    for _ in 0..buffer.len() {
+        let taken = file.read(&mut buffer[count..])?;
+        if taken == 0 {
+            break;
+        }
+        count += taken;
+    }
+    Ok(count)
 }
 
 // 1 if a whole frame's request is answered as recorded. One that is not is told by its number.
