@@ -1,6 +1,6 @@
 -- Pictures that are alike in macroblocks that see none but each other, by the definitions that the contracts cite.
 --     luma_records, luma_samples       coded in luma: the records of these macroblocks, and their rebuilt samples
---     both_before_law                      both planes of chroma before macroblock k, coded by one mode of both
+--     both_before_law                  both planes of chroma before macroblock k, coded by one mode of both
 --     chroma_records, cb_samples, cr_samples     coded in chroma
 --     rebuilt_alike, cb_alike, cr_alike          decoded
 -- Assumes nothing.

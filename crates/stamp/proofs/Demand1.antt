@@ -1,6 +1,6 @@
 -- Demand 1 (`specs/Demand1`).
---     fb_answers, fb-NAME-answers      the claim of this name, and function by function
---     fb-NAME-missing-has-no-value, fb-NAME-entry-has-no-value     the claims of these names
+--     fb_answers, fb_NAME_answers      the claim of this name, and function by function
+--     fb_NAME_missing_has_no_value, fb_NAME_entry_has_no_value     the claims of these names
 --     demand_1                         all claims
 -- Assumes nothing.
 use mathlib.Core.Path.{◌≡◌, refl, sym, ◌∙◌}

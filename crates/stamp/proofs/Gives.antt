@@ -1,5 +1,5 @@
 -- What each call gives (`fb_gives` of `specs/Demand2`).
---     fb-NAME-gives, fb_gives     function by function, and the claim
+--     fb_NAME_gives, fb_gives     function by function, and the claim
 -- Assumes nothing.
 use mathlib.Core.Path.{refl}
 use Rattle.stamp.specs.Answers.{Succeeds}

@@ -1,5 +1,5 @@
 -- What is not present, and another slice, has no value (`specs/Unseen`).
---     fb-NAME-unseen, fb-NAME-slice-alone, fb-NAME-block-alone     the claims of these names
+--     fb_NAME_unseen, fb_NAME_slice_alone, fb_NAME_block_alone     the claims of these names
 --     blocks_coded, blocks_decoded            a record of the 4x4 kind, of a coder and of a decoder
 --     unseen_has_no_value                     all claims
 -- Assumes nothing.

@@ -1,7 +1,7 @@
 -- Calls of the exported functions, by tables with a row for each function. A call is one of the reading that the toolchain makes of the contract in
 -- fleecebutton/src/lib.rt, so that what is said of any call is said of whatever this contract allows. Of a call c the demands say
 --     word c               what it sent back
---     given c .NAME        what it was given, by the names in `Contents`
+--     (given c).NAME       what it was given, by the names in `Contents`
 --     before c, after c    what its outputs held when they were lent, and at its end; with .NAME where there are several
 -- Assumes nothing.
 use Rattle.std.specs.Prelude.{List, ℕ, Float, ℤ}
