@@ -7,6 +7,7 @@ pub mod Demand3
 pub mod Found
 pub mod Gives
 pub mod Laws
+pub mod Refused
 pub mod Requests
 pub mod Sent
 pub mod Unseen
