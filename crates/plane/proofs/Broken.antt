@@ -40,7 +40,7 @@ use Rattle.macroblock.specs.Content.{content_tests}
 use Rattle.macroblock.proofs.Contents.{content_kind}
 use Rattle.macroblock_chroma.specs.Content.{content_tests_chroma}
 use Rattle.macroblock_chroma.proofs.Contents.{chroma_kind}
-use Rattle.plane.specs.Broken.{place_in, records_of, FineTo, FirstBroken, MarkRefused, head_mark, record_mark, NumberRefused, record_number, SumRefused, head_sum, record_sum_law, FormRefused, head_cut, head_short, mark_cut, rest_cut, left_over}
+use Rattle.plane.specs.Broken.{place_in, records_of, FineTo, FirstBroken, MarkRefused, head_mark, record_mark, NumberRefused, record_number, SumRefused, head_sum, record_sum, FormRefused, head_cut, head_short, mark_cut, rest_cut, left_over}
 use Rattle.plane.specs.Decode.{luma_in, chroma_in, chroma_place, forms_tests, macroblock_tests, contents_tests, records_tests, body_tests, layout_in, decode_tests}
 use Rattle.plane.proofs.Entry.{plane_short, body_rest}
 use Rattle.plane.proofs.decode_plane.Kinds as call
@@ -163,7 +163,7 @@ module _ (file before : List ℕ) where
   broken_by_record m Mark b = record_mark m b refl
   broken_by_record m CutRest b = rest_cut m b refl
   broken_by_record m Number b = record_number m b refl
-  broken_by_record m Sum b = record_sum_law m b refl
+  broken_by_record m Sum b = record_sum m b refl
 
   broken_only : (r : Refusal) → FileBroken file before r → SaysBroken r
   broken_only r (at_head e) = broken_by_head r (((chain_exactly_if (head_tests file)).refuses r).0 e)
@@ -189,7 +189,7 @@ module _ (file before : List ℕ) where
 
     sum_if : SumRefused file before place → FileBroken file before (refusal.Sum place)
     sum_if (head_sum two mark room sum is) = head_refused (inr (le-leb 2 total two, inr (mark, inr (le-leb (long_at file) total room, inl (sum, at_zero is)))))
-    sum_if (record_sum_law m b is) = at_record m Sum b (ap refusal.Sum is)
+    sum_if (record_sum m b is) = at_record m Sum b (ap refusal.Sum is)
 
     form_if : FormRefused file before place → FileBroken file before (refusal.Form place)
     form_if (head_cut cut is) = head_refused (inl (lt-leb 2 total cut, ap refusal.Form is))

@@ -54,7 +54,7 @@ pub data SumRefused (file before : List ℕ) (place : ℕ) : Type 0 where
   head_sum :
       2 ≤ length file → is_head (number_at 0 file) ≡ true → long_at file ≤ length file → sum_holds (take (long_at file) file) ≡ false
       → place ≡ long_at file - 2 → SumRefused file before place
-  record_sum_law :
+  record_sum :
       (m : ℕ) → FirstBroken file before Sum m → place ≡ place_in file m + length_from (place_in file m) file - 2 → SumRefused file before place
 
 -- 9: a cut head, at 0; a record that is cut in its mark or behind it, or bytes after the last record, at the file's length

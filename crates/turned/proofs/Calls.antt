@@ -1,16 +1,15 @@
 -- The claims of any two calls of the exported functions.
 --     fb_forward_turns, fb_levels_turn, fb_predict_turns
---     done_word     the low byte of a word is 0 where the tests pass
 -- Assumes nothing.
 use mathlib.Core.Path.{◌≡◌, refl, sym, ap, ap₂, ◌∙◌}
 use mathlib.Core.Bool.{false≢true}
 use mathlib.Core.List.{List}
-use Prim.Native.Nat.{ℕ, ◌%◌}
+use Prim.Native.Nat.{ℕ}
 use native.Mathlib.Omega.{arith}
 use borrow.Author.Tests.{eqb-true, eq-eqb}
 use lib.IntN.{ℤ, pos, negsuc}
 use lib.ListN.{length}
-use Rattle.lists.specs.Chain.{Test, Verdict, pass, chain}
+use Rattle.lists.specs.Chain.{Verdict, pass, chain}
 use Rattle.lists.proofs.Chain.{chain_exactly_if, holds_new}
 use Rattle.lists.proofs.Tab.{length_tab}
 use Rattle.lists.proofs.Turned.{length_turned}
@@ -28,16 +27,12 @@ use Rattle.intra4.specs.Rules.{Predicted, samples, none, samples_of, predicted}
 use Rattle.intra4.specs.Samples.{mask}
 use Rattle.intra4.proofs.Masked.{none_exactly_if}
 use Rattle.fleecebutton.specs.Word.{word_of}
-use Rattle.fleecebutton.proofs.Told.{done_exactly_if, passed_word}
+use Rattle.fleecebutton.proofs.Told.{passed_word, done_word}
 use Rattle.turned.specs.Square.{turned_block, turned_samples}
 use Rattle.turned.specs.Exchanged.{turned_prediction}
 use Rattle.turned.specs.Calls.{forward_residual, forward_before, FbForwardTurns, levels_quantizer, levels_residual, levels_before, FbLevelsTurn, predict_neighbours, predict_flags, predict_mode, predict_before, CallsExchanged, FbPredictTurns}
 use Rattle.turned.proofs.Coefficients.{coefficients_turn, levels_turn}
 use Rattle.turned.proofs.Prediction.{permitted_turns, prediction_turns}
-
--- the low byte of a word is 0 where the tests pass
-pub done_word : (ts : List (Test Refusal)) (value : ℕ) {w : ℕ} → w ≡ word_of (chain ts) value → chain ts ≡ pass → w % 256 ≡ 0
-done_word ts value e v = ap (λ (u : ℕ). u % 256) e ∙ (done_exactly_if ts value).1 ((chain_exactly_if ts).passes.0 v)
 
 -- ---- residuals in range are so turned: the last test of `forward` and `levels`
 
