@@ -1,12 +1,16 @@
 -- `frame::code_picture` meets its contract: a law for each answer. Assumes nothing.
 use mathlib.Core.Path.{◌≡◌, sym, ap, ◌∙◌}
 use mathlib.Core.Bool.{true}
+use mathlib.Core.List.{List}
 use native.Mathlib.Omega.{arith}
-use lib.IntN.{pos}
+use lib.IntN.{ℤ, pos}
 use lib.ListN.{length}
 use mir.Syntax.{w32}
+use mir.Val.{to_z, of_z}
 use mir.ValLaws.{to_z-of_z}
+use Rattle.lists.specs.Chain.{Test, pass, chain}
 use Rattle.lists.proofs.Tab.{length_tab}
+use Rattle.refusal.specs.declared.Refusal.{Refusal}
 use Rattle.whole.specs.Notation.{minus}
 use Rattle.whole.specs.Range.{inside}
 use Rattle.residual.specs.Entry.{Accepts}
@@ -19,8 +23,59 @@ use Rattle.plane.specs.Decode.{cleared}
 use Rattle.plane.proofs.Entry.{sound_slices}
 use Rattle.frame.specs.Code.{frame_tests}
 use Rattle.frame.proofs.FrameOutcome.{bad_size, bad_rows, frame_refused, picture_coded}
-use Rattle.frame.proofs.Tested.{frame_told}
+use Rattle.frame.proofs.Tested.{FrameTold, frame_told}
 use Rattle.frame.proofs.code_picture.Goals as goal
+use Rattle.frame.proofs.code_picture.Goals.{After-frame_accepted, In-Legal}
+
+-- ---- what is known behind the call of `frame_accepted`
+
+-- width, height and rows have passed their tests
+sized : (c : After-frame_accepted) → size_holds c.args.width c.args.height ≡ true
+sized c = sym c.size_holds.ensures ∙ c.if-not-size_holds.false
+
+sliced : (c : After-frame_accepted) → rows_hold c.args.height c.args.rows ≡ true
+sliced c = sym c.rows_hold.ensures ∙ c.if-not-rows_hold.false
+
+-- the offsets as a call takes them are the offsets as they are
+cb_same : (c : After-frame_accepted) → to_z w32 (of_z w32 c.args.cb_offset) ≡ c.args.cb_offset
+cb_same c = to_z-of_z w32 c.args.cb_offset c.ranges.cb_offset
+
+cr_same : (c : After-frame_accepted) → to_z w32 (of_z w32 c.args.cr_offset) ≡ c.args.cr_offset
+cr_same c = to_z-of_z w32 c.args.cr_offset c.ranges.cr_offset
+
+-- the tests whose verdict it answers, of two offsets
+abbrev tests_of : After-frame_accepted → (cb_offset cr_offset : ℤ) → List (Test Refusal)
+tests_of c cb_offset cr_offset =
+    let a = c.args in
+    frame_tests (in_slices a.width a.height a.rows) a.qp cb_offset cr_offset (length a.luma.now) (length a.cb.now) (length a.cr.now) (length a.file.now)
+    (length a.luma_out.now) (length a.cb_out.now) (length a.cr_out.now)
+
+abbrev tests : After-frame_accepted → List (Test Refusal)
+tests c = tests_of c c.args.cb_offset c.args.cr_offset
+
+-- its answer to them, of the offsets as they are
+answered : (c : After-frame_accepted) → Accepts (tests c) c.args.qp c.frame_accepted.result
+answered c = coe 0 1 (i. Accepts (tests_of c (cb_same c i) (cr_same c i)) c.args.qp c.frame_accepted.result) c.frame_accepted.ensures
+
+-- ---- and where it answers a quantizer
+
+abbrev call : In-Legal → After-frame_accepted
+call c = (goal.at.In-Legal c).After-frame_accepted
+
+passed : (c : In-Legal) → chain (tests (call c)) ≡ pass
+passed c = accepted_passed (tests (call c)) c.args.qp (answered (call c)) c.in-Legal.is
+
+number : (c : In-Legal) → c.in-Legal.quantizer.qp ≡ c.args.qp
+number c = accepted_number (tests (call c)) c.args.qp (answered (call c)) c.in-Legal.is
+
+told : (c : In-Legal) → (
+    let a = c.args in
+    FrameTold (in_slices a.width a.height a.rows) a.qp a.cb_offset a.cr_offset (length a.luma.now) (length a.cb.now) (length a.cr.now) (length a.file.now)
+    (length a.luma_out.now) (length a.cb_out.now) (length a.cr_out.now)
+    )
+told c = frame_told _ _ _ _ _ _ _ _ _ _ _ (passed c)
+
+-- ---- the answers
 
 pub returns-then-not-size_holds : goal.returns-then-not-size_holds
 returns-then-not-size_holds c =
@@ -40,138 +95,44 @@ frame_accepted-requires c = sound_slices _ _ _ (sym c.size_holds.ensures ∙ c.i
 pub returns-in-Refused : goal.returns-in-Refused
 returns-in-Refused c =
     let a = c.args in
-    let l = in_slices a.width a.height a.rows in
-    let sized : size_holds a.width a.height ≡ true = sym c.size_holds.ensures ∙ c.if-not-size_holds.false in
-    let sliced : rows_hold a.height a.rows ≡ true = sym c.rows_hold.ensures ∙ c.if-not-rows_hold.false in
-    -- what the tests behind these answer, of the offsets as they are
-    let cb_same = to_z-of_z w32 a.cb_offset c.ranges.cb_offset in
-    let cr_same = to_z-of_z w32 a.cr_offset c.ranges.cr_offset in
-    let tests =
-    frame_tests l a.qp a.cb_offset a.cr_offset (length a.luma.now) (length a.cb.now) (length a.cr.now) (length a.file.now)
-    (length a.luma_out.now) (length a.cb_out.now) (length a.cr_out.now) in
-    let answered : Accepts tests a.qp c.frame_accepted.result =
-    coe 0 1
-    (i. Accepts
-    (frame_tests l a.qp (cb_same i) (cr_same i) (length a.luma.now) (length a.cb.now) (length a.cr.now) (length a.file.now)
-    (length a.luma_out.now) (length a.cb_out.now) (length a.cr_out.now))
-    a.qp c.frame_accepted.result)
-    c.frame_accepted.ensures in
+    let s = (goal.at.returns-in-Refused c).After-frame_accepted in
     frame_refused _ _ _ _ _ _ a.luma.now a.cb.now a.cr.now a.file.now a.luma_out.now a.cb_out.now a.cr_out.now
-    sized sliced (accepted_refused tests a.qp answered c.in-Refused.is)
+    (sized s) (sliced s) (accepted_refused (tests s) a.qp (answered s) c.in-Refused.is)
 
 pub code_frame-requires-clause-sound : goal.code_frame-requires-clause-sound
 code_frame-requires-clause-sound c =
-    let a = c.args in
-    let l = in_slices a.width a.height a.rows in
-    let sized : size_holds a.width a.height ≡ true = sym c.size_holds.ensures ∙ c.if-not-size_holds.false in
-    let sliced : rows_hold a.height a.rows ≡ true = sym c.rows_hold.ensures ∙ c.if-not-rows_hold.false in
-    -- what the tests behind these answer, of the offsets as they are
-    let cb_same = to_z-of_z w32 a.cb_offset c.ranges.cb_offset in
-    let cr_same = to_z-of_z w32 a.cr_offset c.ranges.cr_offset in
-    let tests =
-    frame_tests l a.qp a.cb_offset a.cr_offset (length a.luma.now) (length a.cb.now) (length a.cr.now) (length a.file.now)
-    (length a.luma_out.now) (length a.cb_out.now) (length a.cr_out.now) in
-    let answered : Accepts tests a.qp c.frame_accepted.result =
-    coe 0 1
-    (i. Accepts
-    (frame_tests l a.qp (cb_same i) (cr_same i) (length a.luma.now) (length a.cb.now) (length a.cr.now) (length a.file.now)
-    (length a.luma_out.now) (length a.cb_out.now) (length a.cr_out.now))
-    a.qp c.frame_accepted.result)
-    c.frame_accepted.ensures in
-    let passed = accepted_passed tests a.qp answered c.in-Legal.is in
-    let number = accepted_number tests a.qp answered c.in-Legal.is in
-    let told =
-    frame_told l a.qp a.cb_offset a.cr_offset (length a.luma.now) (length a.cb.now) (length a.cr.now) (length a.file.now)
-    (length a.luma_out.now) (length a.cb_out.now) (length a.cr_out.now) passed in (
-      sound_slices _ _ _ sized sliced,
-      (rows_of_law _ _ sliced).1,
-      rw number told.legal,
-      ap (inside (minus 12) (pos 12)) cb_same ∙ told.cb_inside,
-      ap (inside (minus 12) (pos 12)) cr_same ∙ told.cr_inside,
+    let legal = (goal.at.code_frame-requires-clause-sound c).In-Legal in
+    let s = call legal in
+    let t = told legal in (
+      sound_slices _ _ _ (sized s) (sliced s),
+      (rows_of_law _ _ (sliced s)).1,
+      rw (number legal) t.legal,
+      ap (inside (minus 12) (pos 12)) (cb_same s) ∙ t.cb_inside,
+      ap (inside (minus 12) (pos 12)) (cr_same s) ∙ t.cr_inside,
     )
 
 pub code_frame-requires-clause-luma_len : goal.code_frame-requires-clause-luma_len
 code_frame-requires-clause-luma_len c =
-    let a = c.args in
-    let l = in_slices a.width a.height a.rows in
-    let sized : size_holds a.width a.height ≡ true = sym c.size_holds.ensures ∙ c.if-not-size_holds.false in
-    let sliced : rows_hold a.height a.rows ≡ true = sym c.rows_hold.ensures ∙ c.if-not-rows_hold.false in
-    -- what the tests behind these answer, of the offsets as they are
-    let cb_same = to_z-of_z w32 a.cb_offset c.ranges.cb_offset in
-    let cr_same = to_z-of_z w32 a.cr_offset c.ranges.cr_offset in
-    let tests =
-    frame_tests l a.qp a.cb_offset a.cr_offset (length a.luma.now) (length a.cb.now) (length a.cr.now) (length a.file.now)
-    (length a.luma_out.now) (length a.cb_out.now) (length a.cr_out.now) in
-    let answered : Accepts tests a.qp c.frame_accepted.result =
-    coe 0 1
-    (i. Accepts
-    (frame_tests l a.qp (cb_same i) (cr_same i) (length a.luma.now) (length a.cb.now) (length a.cr.now) (length a.file.now)
-    (length a.luma_out.now) (length a.cb_out.now) (length a.cr_out.now))
-    a.qp c.frame_accepted.result)
-    c.frame_accepted.ensures in
-    let passed = accepted_passed tests a.qp answered c.in-Legal.is in
-    let number = accepted_number tests a.qp answered c.in-Legal.is in
-    let told =
-    frame_told l a.qp a.cb_offset a.cr_offset (length a.luma.now) (length a.cb.now) (length a.cr.now) (length a.file.now)
-    (length a.luma_out.now) (length a.cb_out.now) (length a.cr_out.now) passed in
-    (told.given.luma_fits, told.given.cb_fits, told.given.cr_fits)
+    let given = (told (goal.at.code_frame-requires-clause-luma_len c).In-Legal).given in
+    (given.luma_fits, given.cb_fits, given.cr_fits)
 
 pub code_frame-requires-clause-layout_in_bounds : goal.code_frame-requires-clause-layout_in_bounds
 code_frame-requires-clause-layout_in_bounds c =
-    let a = c.args in
-    let l = in_slices a.width a.height a.rows in
-    let sized : size_holds a.width a.height ≡ true = sym c.size_holds.ensures ∙ c.if-not-size_holds.false in
-    let sliced : rows_hold a.height a.rows ≡ true = sym c.rows_hold.ensures ∙ c.if-not-rows_hold.false in
-    -- what the tests behind these answer, of the offsets as they are
-    let cb_same = to_z-of_z w32 a.cb_offset c.ranges.cb_offset in
-    let cr_same = to_z-of_z w32 a.cr_offset c.ranges.cr_offset in
-    let tests =
-    frame_tests l a.qp a.cb_offset a.cr_offset (length a.luma.now) (length a.cb.now) (length a.cr.now) (length a.file.now)
-    (length a.luma_out.now) (length a.cb_out.now) (length a.cr_out.now) in
-    let answered : Accepts tests a.qp c.frame_accepted.result =
-    coe 0 1
-    (i. Accepts
-    (frame_tests l a.qp (cb_same i) (cr_same i) (length a.luma.now) (length a.cb.now) (length a.cr.now) (length a.file.now)
-    (length a.luma_out.now) (length a.cb_out.now) (length a.cr_out.now))
-    a.qp c.frame_accepted.result)
-    c.frame_accepted.ensures in
-    let passed = accepted_passed tests a.qp answered c.in-Legal.is in
-    let number = accepted_number tests a.qp answered c.in-Legal.is in
-    let told =
-    frame_told l a.qp a.cb_offset a.cr_offset (length a.luma.now) (length a.cb.now) (length a.cr.now) (length a.file.now)
-    (length a.luma_out.now) (length a.cb_out.now) (length a.cr_out.now) passed in
-    let luma = c.clear.ensures ∙ ap cleared told.rebuilt.luma_fits in
-    let cb = c.clear-in-Legal.ensures ∙ ap cleared told.rebuilt.cb_fits in
-    let cr = c.clear-in-Legal-2.ensures ∙ ap cleared told.rebuilt.cr_fits in
-    (omega (arith, told.area), ap length luma ∙ length_tab _ _, ap length cb ∙ length_tab _ _, ap length cr ∙ length_tab _ _)
+    let t = told (goal.at.code_frame-requires-clause-layout_in_bounds c).In-Legal in
+    let luma = c.clear.ensures ∙ ap cleared t.rebuilt.luma_fits in
+    let cb = c.clear-in-Legal.ensures ∙ ap cleared t.rebuilt.cb_fits in
+    let cr = c.clear-in-Legal-2.ensures ∙ ap cleared t.rebuilt.cr_fits in
+    (omega (arith, t.area), ap length luma ∙ length_tab _ _, ap length cb ∙ length_tab _ _, ap length cr ∙ length_tab _ _)
 
 pub returns-in-Legal : goal.returns-in-Legal
 returns-in-Legal c =
     let a = c.args in
-    let l = in_slices a.width a.height a.rows in
-    let sized : size_holds a.width a.height ≡ true = sym c.size_holds.ensures ∙ c.if-not-size_holds.false in
-    let sliced : rows_hold a.height a.rows ≡ true = sym c.rows_hold.ensures ∙ c.if-not-rows_hold.false in
-    -- what the tests behind these answer, of the offsets as they are
-    let cb_same = to_z-of_z w32 a.cb_offset c.ranges.cb_offset in
-    let cr_same = to_z-of_z w32 a.cr_offset c.ranges.cr_offset in
-    let tests =
-    frame_tests l a.qp a.cb_offset a.cr_offset (length a.luma.now) (length a.cb.now) (length a.cr.now) (length a.file.now)
-    (length a.luma_out.now) (length a.cb_out.now) (length a.cr_out.now) in
-    let answered : Accepts tests a.qp c.frame_accepted.result =
-    coe 0 1
-    (i. Accepts
-    (frame_tests l a.qp (cb_same i) (cr_same i) (length a.luma.now) (length a.cb.now) (length a.cr.now) (length a.file.now)
-    (length a.luma_out.now) (length a.cb_out.now) (length a.cr_out.now))
-    a.qp c.frame_accepted.result)
-    c.frame_accepted.ensures in
-    let passed = accepted_passed tests a.qp answered c.in-Legal.is in
-    let number = accepted_number tests a.qp answered c.in-Legal.is in
-    let told =
-    frame_told l a.qp a.cb_offset a.cr_offset (length a.luma.now) (length a.cb.now) (length a.cr.now) (length a.file.now)
-    (length a.luma_out.now) (length a.cb_out.now) (length a.cr_out.now) passed in
-    let luma = c.clear.ensures ∙ ap cleared told.rebuilt.luma_fits in
-    let cb = c.clear-in-Legal.ensures ∙ ap cleared told.rebuilt.cb_fits in
-    let cr = c.clear-in-Legal-2.ensures ∙ ap cleared told.rebuilt.cr_fits in
+    let legal = (goal.at.returns-in-Legal c).In-Legal in
+    let s = call legal in
+    let t = told legal in
+    let luma = c.clear.ensures ∙ ap cleared t.rebuilt.luma_fits in
+    let cb = c.clear-in-Legal.ensures ∙ ap cleared t.rebuilt.cb_fits in
+    let cr = c.clear-in-Legal-2.ensures ∙ ap cleared t.rebuilt.cr_fits in
     let y = c.code_frame.ensures in
     picture_coded _ _ _ _ _ _ a.luma.now a.cb.now a.cr.now a.file.now a.luma_out.now a.cb_out.now a.cr_out.now
-    sized sliced passed number cb_same cr_same luma (λ i. pair (cb i) (cr i)) y.value y.file_after y.luma_out_after y.cr_out_after
+    (sized s) (sliced s) (passed legal) (number legal) (cb_same s) (cr_same s) luma (λ i. pair (cb i) (cr i)) y.value y.file_after y.luma_out_after y.cr_out_after

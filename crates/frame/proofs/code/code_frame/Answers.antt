@@ -21,6 +21,19 @@ use Rattle.frame.specs.Code.{frame_from, both_from}
 use Rattle.frame.proofs.CodedFrame.{length_frame_to, length_records_from}
 use Rattle.frame.proofs.CodingFrame.{frame_begun, frame_room, frame_more, frame_done}
 use Rattle.frame.proofs.code.code_frame.Goals as goal
+use Rattle.frame.proofs.code.code_frame.Goals.{In-loop-m}
+
+-- what is left behind the place has room for both records of macroblock m
+room : (c : In-loop-m) → c.loop-m.place + (length_of in_fours + length_of in_chroma) ≤ length c.loop-m.file
+room c =
+    let a = c.args in
+    let for_cb = to_z w32 (of_z w32 a.cb_offset) in
+    let for_cr = to_z w32 (of_z w32 a.cr_offset) in
+    let chroma = pair a.cb.now a.cr.now in
+    let i = c.loop-m.invariant in
+    let r = frame_room a.layout a.quantizer.qp for_cb for_cr a.luma.now chroma _ _ _ i c.loop-m-test.true in
+    let e = same_area _ i.front in
+    omega (arith, r, e)
 
 pub overflow_cast-layout : goal.overflow_cast-layout
 overflow_cast-layout c = record { fits = omega (arith, c.requires.sound.0.wide) }
@@ -48,18 +61,8 @@ loop-m-init c =
     frame_begun a.layout a.quantizer.qp for_cb for_cr a.luma.now chroma a.luma_out.now rebuilt a.file.now
     r.1 (record { cbs = r.2; crs = r.3 }) r.0 c.write_head-place.ensures.file_after c.write_head-place.ensures.value
 
--- what is left behind the place has room for both records of macroblock m
 pub slice_bounds-code_records-start : goal.slice_bounds-code_records-start
-slice_bounds-code_records-start c =
-    let a = c.args in
-    let for_cb = to_z w32 (of_z w32 a.cb_offset) in
-    let for_cr = to_z w32 (of_z w32 a.cr_offset) in
-    let chroma = pair a.cb.now a.cr.now in
-    let rebuilt = pair a.cb_out.now a.cr_out.now in
-    let i = c.loop-m.invariant in
-    let r = frame_room a.layout a.quantizer.qp for_cb for_cr a.luma.now chroma _ _ _ i c.loop-m-test.true in
-    let e = same_area _ i.front in
-    omega (arith, r, e)
+slice_bounds-code_records-start c = omega (arith, room (goal.at.slice_bounds-code_records-start c).In-loop-m)
 
 pub code_records-used-requires-clause-among : goal.code_records-used-requires-clause-among
 code_records-used-requires-clause-among c =
@@ -72,15 +75,8 @@ code_records-used-requires-clause-among c =
 
 pub code_records-used-requires-clause-in_chroma_in_bounds : goal.code_records-used-requires-clause-in_chroma_in_bounds
 code_records-used-requires-clause-in_chroma_in_bounds c =
-    let a = c.args in
-    let for_cb = to_z w32 (of_z w32 a.cb_offset) in
-    let for_cr = to_z w32 (of_z w32 a.cr_offset) in
-    let chroma = pair a.cb.now a.cr.now in
-    let rebuilt = pair a.cb_out.now a.cr_out.now in
     let i = c.loop-m.invariant in
-    let r = frame_room a.layout a.quantizer.qp for_cb for_cr a.luma.now chroma _ _ _ i c.loop-m-test.true in
-    let e = same_area _ i.front in
-    let room : c.loop-m.place + (length_of in_fours + length_of in_chroma) ≤ length c.loop-m.file = omega (arith, r, e) in
+    let enough = room (goal.at.code_records-used-requires-clause-in_chroma_in_bounds c).In-loop-m in
     (search rules, i.kept, i.long.cbs, i.long.crs)
 
 pub overflow_add-place : goal.overflow_add-place
@@ -106,8 +102,8 @@ loop-m-preserved c =
     frame_more a.layout a.quantizer.qp for_cb for_cr a.luma.now chroma _ _ _ c.requires.sound.0.some c.loop-m.invariant c.loop-m-test.true
     refl e.value e.file_after e.luma_out_after e.cr_out_after
 
-pub returns-clause-value : goal.returns-clause-value
-returns-clause-value c =
+pub returns : goal.returns
+returns c =
     let a = c.args in
     let for_cb = to_z w32 (of_z w32 a.cb_offset) in
     let for_cr = to_z w32 (of_z w32 a.cr_offset) in
@@ -120,46 +116,9 @@ returns-clause-value c =
     c.write_head-place.ensures.file_after c.loop-m.invariant c.loop-m-test.false in
     let made : frame_from a.layout a.quantizer.qp for_cb for_cr a.luma.now chroma a.luma_out.now rebuilt ≡ frame_from a.layout a.quantizer.qp a.cb_offset a.cr_offset a.luma.now chroma a.luma_out.now rebuilt =
     λ i. frame_from a.layout a.quantizer.qp (cb_same i) (cr_same i) a.luma.now chroma a.luma_out.now rebuilt in
-    d.0 ∙ ap length made
-
-pub returns-clause-file_after : goal.returns-clause-file_after
-returns-clause-file_after c =
-    let a = c.args in
-    let for_cb = to_z w32 (of_z w32 a.cb_offset) in
-    let for_cr = to_z w32 (of_z w32 a.cr_offset) in
-    let chroma = pair a.cb.now a.cr.now in
-    let rebuilt = pair a.cb_out.now a.cr_out.now in
-    let cb_same = to_z-of_z w32 a.cb_offset c.ranges.cb_offset in
-    let cr_same = to_z-of_z w32 a.cr_offset c.ranges.cr_offset in
-    let d =
-    frame_done a.layout a.quantizer.qp for_cb for_cr a.luma.now chroma a.luma_out.now rebuilt a.file.now
-    c.write_head-place.ensures.file_after c.loop-m.invariant c.loop-m-test.false in
-    let made : frame_from a.layout a.quantizer.qp for_cb for_cr a.luma.now chroma a.luma_out.now rebuilt ≡ frame_from a.layout a.quantizer.qp a.cb_offset a.cr_offset a.luma.now chroma a.luma_out.now rebuilt =
-    λ i. frame_from a.layout a.quantizer.qp (cb_same i) (cr_same i) a.luma.now chroma a.luma_out.now rebuilt in
-    d.1 ∙ ap (λ (x : List ℕ). over x a.file.now) made
-
-pub returns-clause-luma_out_after : goal.returns-clause-luma_out_after
-returns-clause-luma_out_after c =
-    let a = c.args in
-    let for_cb = to_z w32 (of_z w32 a.cb_offset) in
-    let for_cr = to_z w32 (of_z w32 a.cr_offset) in
-    let chroma = pair a.cb.now a.cr.now in
-    let rebuilt = pair a.cb_out.now a.cr_out.now in
-    let d =
-    frame_done a.layout a.quantizer.qp for_cb for_cr a.luma.now chroma a.luma_out.now rebuilt a.file.now
-    c.write_head-place.ensures.file_after c.loop-m.invariant c.loop-m-test.false in
-    d.2
-
-pub returns-clause-cr_out_after : goal.returns-clause-cr_out_after
-returns-clause-cr_out_after c =
-    let a = c.args in
-    let for_cb = to_z w32 (of_z w32 a.cb_offset) in
-    let for_cr = to_z w32 (of_z w32 a.cr_offset) in
-    let chroma = pair a.cb.now a.cr.now in
-    let rebuilt = pair a.cb_out.now a.cr_out.now in
-    let cb_same = to_z-of_z w32 a.cb_offset c.ranges.cb_offset in
-    let cr_same = to_z-of_z w32 a.cr_offset c.ranges.cr_offset in
-    let d =
-    frame_done a.layout a.quantizer.qp for_cb for_cr a.luma.now chroma a.luma_out.now rebuilt a.file.now
-    c.write_head-place.ensures.file_after c.loop-m.invariant c.loop-m-test.false in
-    d.3 ∙ (λ i. both_from a.layout a.quantizer.qp (cb_same i) (cr_same i) chroma rebuilt)
+    record {
+      value = d.0 ∙ ap length made;
+      file_after = d.1 ∙ ap (λ (x : List ℕ). over x a.file.now) made;
+      luma_out_after = d.2;
+      cr_out_after = d.3 ∙ (λ i. both_from a.layout a.quantizer.qp (cb_same i) (cr_same i) chroma rebuilt);
+    }
