@@ -128,7 +128,7 @@ function specs_of(module,  crate, file) {
 }
 
 # the theorem is over the function's own kinds and reading; its tests are a definition's, of the call's arguments; and what it reads of the
-# answer is a definition of the answer's type, which lets no refusal pass
+# answer, a `Result` with a `Refusal`, is a definition that lets no refusal pass
 function hold_refusing(name, t,  crate, about, tests, tells, at, word, n) {
     crate = crate_of[name]; about = name ": " t
     if (!((crate, t) in refuses)) { complain(name " has no " t " in crates/" crate "/proofs/Refuses.antt"); return }
@@ -140,9 +140,8 @@ function hold_refusing(name, t,  crate, about, tests, tells, at, word, n) {
         complain(about " names the tests " tests ", which it takes of no file of specs/")
     }
     at = specs_of(takes[crate, "Refuses", tells])
-    n = split(result_of[name], word, ",")
     if (at == "" || !((at, tells) in told_of) || stands(crate, "proofs/Refuses", tells)) { complain(about " reads the answer by " tells ", which no file of specs/ tells of an answer") }
-    else if (told_of[at, tells] != word[n]) { complain(about " reads the answer by " tells ", which is of " told_of[at, tells] ", and the function answers " word[n]) }
+    else if (!is_result_of_refusal(name)) { complain(about " reads the answer by " tells ", and the function answers " result_of[name] ", not a Result with a Refusal") }
     else if (told_badly[at, tells] != "-") { complain(about " reads the answer by " tells ", which is no reading of refusals: " told_badly[at, tells]) }
     with_refuses[crate] = 1
 }
@@ -157,8 +156,15 @@ function hold_words(  crate, name) {
     }
 }
 
+# `Result<.., Refusal>`
+function is_result_of_refusal(name) {
+    return result_of[name] ~ /^Result,/ && result_of[name] ~ /,Refusal$/
+}
+
+# a Refusal comes back beside something else, in a Result or in a type of the house
 function can_refuse(name,  word, n, k) {
     n = split(result_of[name], word, ",")
+    if (n > 1 && word[n] == "Refusal") { return 1 }
     for (k = 1; k <= n; k++) { if (word[k] in refusing) { return 1 } }
     return 0
 }

@@ -63,7 +63,7 @@ function state_refuses(name, text,  word, part, tests, tells, argument) {
 function end_file(  name) {
     if (statement != "") { state(statement); statement = "" }
     for (name in result_of) {
-        if (bad_row[name] == "" && !(name in stopped)) { bad_row[name] = "there is no row of Refused r" }
+        if (bad_row[name] == "" && !(name in stopped)) { bad_row[name] = "there is no row of Err r" }
         print "tells", crate, file, name, result_of[name], no_word(bad_row[name])
     }
     split("", result_of); split("", bad_row); split("", stopped)
@@ -71,13 +71,13 @@ function end_file(  name) {
 }
 
 function telling(line,  word, pattern, says, constructor) {
-    if (line ~ /^abbrev pub [^ ]+ : [^ ]+ → Verdict Refusal$/) { split(line, word, " "); result_of[word[3]] = word[5]; return }
+    if (line ~ /^abbrev pub [^ ]+ : \{T : Type 0\} → Result T Refusal → Verdict Refusal$/) { split(line, word, " "); result_of[word[3]] = "Result"; return }
     split(line, word, " ")
     if (!(word[1] in result_of)) { return }
     pattern = line; sub(/^[^ ]+ /, "", pattern); sub(/ = .*/, "", pattern); says = line; sub(/.* = /, "", says)
     constructor = pattern; sub(/^\(/, "", constructor); sub(/ .*/, "", constructor); sub(/.*\./, "", constructor)
-    if (constructor == "Refused" && pattern ~ / r\)$/ && says == "stop r") { stopped[word[1]] = 1 }
-    else if (constructor !~ /^[A-Z]/ || constructor == "Refused" || says != "pass") { bad_row[word[1]] = line }
+    if (constructor == "Err" && pattern ~ / r\)$/ && says == "stop r") { stopped[word[1]] = 1 }
+    else if (constructor != "Ok" || says != "pass") { bad_row[word[1]] = line }
 }
 
 function last_of(text, part,  at, found) {

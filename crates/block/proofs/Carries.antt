@@ -1,7 +1,7 @@
 -- What a block by value carries, and the bounds that its numbers need on the way.
 --     levels_small, coded_small, numbers_small     of a small residual
 --     carried, nothing_carried                     what the code computes in turn, put together; and where the prediction lacks nothing
---     length_samples, carried_long                 sixteen of each
+--     length_samples                               sixteen of them
 -- Assumes nothing.
 use mathlib.Core.Path.{◌≡◌, sym, ap, subst, ◌∙◌}
 use mathlib.Core.List.{List}
@@ -23,12 +23,11 @@ use Rattle.residual.specs.Levels.{quantized, levels_of}
 use Rattle.residual.specs.Order.{in_zigzag}
 use Rattle.residual.specs.Rescale.{rescaled}
 use Rattle.residual.specs.Rebuild.{added, rebuilt_samples, rescaled_of}
-use Rattle.residual.proofs.Order.{length_zigzag, zigzag_each}
+use Rattle.residual.proofs.Order.{zigzag_each}
 use Rattle.residual.proofs.Own.{length_quantized, own_numbers, own_levels_in_range}
 use Rattle.residual.proofs.Zeros.{zeros, quantized_zeros, zigzag_zeros, rescaled_zeros, samples_zeros}
 use Rattle.block.specs.Block.{residual_of, prediction_of}
 use Rattle.block.specs.Entry.{Carries}
-use Rattle.block.specs.declared.inner.Block.{Block}
 
 module _ (qp : ℕ) (x : List ℤ) (legal : qp ≤ highest) (small : Each 255 x) where
   pub levels_small : Each 32768 (quantized qp x)
@@ -87,10 +86,7 @@ module _ (qp : ℕ) (legal : qp ≤ highest) (round : Round) (block : List ℕ) 
       (sym (ap (rebuilt_samples c.prediction) (rescaled_zeros qp) ∙ samples_zeros c.prediction sixteen bytes))
       (coded_small qp zeros legal (each_tab 255 16 (λ k. pos 0) (λ k h. record { size = omega arith })))
 
--- sixteen of each
+-- sixteen of them
 pub length_samples : (prediction : List ℕ) (d : List ℤ) → length (rebuilt_samples prediction d) ≡ 16
 unfolding rebuilt_samples added
 length_samples prediction d = length_tab 16 _
-
-pub carried_long : {qp : ℕ} {round : Round} {block : List ℕ} {x : Block} → Carries qp round block x → (length x.levels ≡ 16) × (length x.rebuilt ≡ 16)
-carried_long c = (ap length c.levels ∙ length_zigzag _, ap length c.rebuilt ∙ length_samples _ _)

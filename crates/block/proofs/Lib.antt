@@ -1,5 +1,6 @@
 pub mod Carries
 pub mod Laws
+mod Made
 pub mod Missing
 pub mod Outcome
 pub mod Refuses

@@ -13,7 +13,6 @@ use Rattle.lists.specs.Chain.{pass, chain}
 use Rattle.lists.specs.Bytes.{Bytes}
 use Rattle.lists.proofs.Chain.{chain_exactly_if}
 use Rattle.refusal.proofs.Same.{says_same, says}
-use Rattle.refusal.specs.declared.Answer.TheVariants.{Done}
 use Rattle.quantizer.proofs.Range.{number_legal}
 use Rattle.intra4.specs.Samples.{mask, AgreeWherePresent}
 use Rattle.intra4.proofs.Bytes.{chosen_sixteen}
@@ -22,7 +21,6 @@ use Rattle.intra4.specs.Rules as rules
 use Rattle.intra4.specs.Choice.{at, chosen}
 use Rattle.intra4.specs.Entry.{best_samples}
 use Rattle.intra4.specs.declared.Chosen.{Chosen}
-use Rattle.intra4.specs.declared.Chosen.TheVariants.{Mode}
 use Rattle.intra4.proofs.Outcome.{same_chosen}
 use Rattle.residual.specs.Entry.{Rebuilds, rebuild_tests}
 use Rattle.residual.specs.Rebuild.{rebuilt_samples, rescaled_of}
@@ -30,9 +28,11 @@ use Rattle.residual.proofs.Own.{own_levels_pass}
 use Rattle.block.specs.Entry.{Codes, code_tests}
 use Rattle.block.proofs.Laws.{own_residual_small}
 use Rattle.block.specs.Block.{residual_of, prediction_of, coded_levels, coded_samples}
+use Rattle.std.specs.Prelude.{Ok, Result}
+use Rattle.refusal.specs.declared.Refusal.{Refusal}
 
 pub missing_has_no_value : (qp f : ℕ) (n n' s : List ℕ) (l : List ℤ) (o : List ℕ) → AgreeWherePresent f n n'
-    → (r r' : Chosen) (l₁ l₂ : List ℤ) (o₁ o₂ : List ℕ) → Codes qp f n s l o r l₁ o₁ → Codes qp f n' s l o r' l₂ o₂ → (r ≡ r') × (l₁ ≡ l₂) × (o₁ ≡ o₂)
+    → (r r' : Result Chosen Refusal) (l₁ l₂ : List ℤ) (o₁ o₂ : List ℕ) → Codes qp f n s l o r l₁ o₁ → Codes qp f n' s l o r' l₂ o₂ → (r ≡ r') × (l₁ ≡ l₂) × (o₁ ≡ o₂)
 missing_has_no_value qp f n n' s l o g r r' l₁ l₂ o₁ o₂ p q =
     let k = g.long in
     let m = same_mask f n n' g in (
@@ -41,9 +41,9 @@ missing_has_no_value qp f n n' s l o g r r' l₁ l₂ o₁ o₂ p q =
       p.rebuilt ∙ rw (k, m) (sym q.rebuilt),
     )
 
-pub rebuilds : (qp f : ℕ) (n s : List ℕ) (l : List ℤ) (o : List ℕ) (m sad : ℕ) (l' : List ℤ) (o' : List ℕ) → Codes qp f n s l o (Mode m sad) l' o'
+pub rebuilds : (qp f : ℕ) (n s : List ℕ) (l : List ℤ) (o : List ℕ) (m sad : ℕ) (l' : List ℤ) (o' : List ℕ) → Codes qp f n s l o (Ok (record { mode = m; sad = sad })) l' o'
     → Bytes n → Bytes s
-    → (out : List ℕ) → length out ≡ 16 → Rebuilds qp (rules.samples_of (rules.predicted (mask n f) m)) l' out Done o'
+    → (out : List ℕ) → length out ≡ 16 → Rebuilds qp (rules.samples_of (rules.predicted (mask n f) m)) l' out (Ok tt) o'
 rebuilds qp f n s l o m sad l' o' p near own out room =
     let v : chain (code_tests qp f n s l o) ≡ pass = sym (says_same p.says) in
     let all = (chain_exactly_if (code_tests qp f n s l o)).passes.0 v in

@@ -2,16 +2,17 @@
 use Rattle.std.specs.Prelude.{◌≡◌, List, [], ◌∷◌, ℕ, ℤ, length}
 use Rattle.lists.specs.Chain.{Test, chain, written}
 use Rattle.whole.specs.Bounds.{Each}
-use Rattle.refusal.specs.Number.{Says}
+use Rattle.refusal.specs.Number.{Says, said}
 use Rattle.refusal.specs.Tests.{length_test, flags_test}
 use Rattle.refusal.specs.declared.Refusal.{Refusal}
 use Rattle.intra4.specs.Samples.{Round, mask}
 use Rattle.quantizer.specs.Range.{quantizer_test}
 use Rattle.intra4.specs.Choice.{nothing, at, chosen}
-use Rattle.intra4.specs.Entry.{said_chosen, best_in}
+use Rattle.intra4.specs.Entry.{best_in}
 use Rattle.intra4.specs.declared.Chosen.{Chosen}
 use Rattle.block.specs.Block.{coded_levels, coded_samples}
 use Rattle.block.specs.declared.inner.Block.{Block}
+use Rattle.std.specs.Prelude.{Result}
 
 -- LENGTH: thirteen neighbours, sixteen samples, levels and rebuilt samples; then FLAGS, then QUANTIZER
 abbrev pub code_tests : (qp flags : ℕ) (neighbours samples : List ℕ) (levels : List ℤ) (rebuilt : List ℕ) → List (Test Refusal)
@@ -20,8 +21,8 @@ code_tests qp flags neighbours samples levels rebuilt =
     ∷ flags_test flags ∷ quantizer_test 0 qp ∷ []
 
 -- what `code_block` makes of the outputs l and o as they were: l' and o'
-pub record Codes (qp flags : ℕ) (neighbours samples : List ℕ) (l : List ℤ) (o : List ℕ) (r : Chosen) (l' : List ℤ) (o' : List ℕ) : Type 0 where
-  pub says : Says (said_chosen r) (chain (code_tests qp flags neighbours samples l o))
+pub record Codes (qp flags : ℕ) (neighbours samples : List ℕ) (l : List ℤ) (o : List ℕ) (r : Result Chosen Refusal) (l' : List ℤ) (o' : List ℕ) : Type 0 where
+  pub says : Says (said r) (chain (code_tests qp flags neighbours samples l o))
   pub best : best_in r ≡ written (chain (code_tests qp flags neighbours samples l o)) (chosen (mask neighbours flags) samples) nothing
   pub levels : l' ≡ written (chain (code_tests qp flags neighbours samples l o)) (coded_levels qp (mask neighbours flags) samples) l
   pub rebuilt : o' ≡ written (chain (code_tests qp flags neighbours samples l o)) (coded_samples qp (mask neighbours flags) samples) o

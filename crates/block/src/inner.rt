@@ -6,9 +6,12 @@ ghost use Rattle.intra4.specs.Samples.{mask};
 ghost use Rattle.block.specs.Block.{residual_of};
 ghost use Rattle.block.specs.Entry.{Carries};
 
+use intra4::inner::Choice;
 use quantizer::Quantizer;
+use std::array;
 
 // What is coded of a block: the chosen mode and its SAD, the levels in zigzag order, and the rebuilt samples.
+// Its mode and SAD go on by name: a `From` for each place would be a public function to .ci/stamp.
 #[derive(Clone, Copy)]
 pub struct Block {
     pub mode: u8,
@@ -20,7 +23,7 @@ pub struct Block {
 fn difference(sample: u8, predicted: u8) -> i32
     ensures { (result ≡ pos sample -ℤ pos predicted) × (Within 255 result) }
 {
-    sample as i32 - predicted as i32
+    i32::from(sample) - i32::from(predicted)
 }
 
 // What the prediction lacks.
@@ -28,11 +31,7 @@ pub fn lacking(samples: &[u8], prediction: [u8; 16]) -> [i32; 16]
     requires { length samples.now ≡ 16 }
     ensures { (result ≡ residual_of samples.now prediction) × (Each 255 result) }
 {
-    let mut residual = [0i32; 16];
-    for place in 0usize..16 {
-        residual[place] = difference(samples[place], prediction[place]);
-    }
-    residual
+    array::from_fn(|place| difference(samples[place], prediction[place]))
 }
 
 // The levels are rescaled as they stand, in raster order: the zigzag order is for the caller alone. A prediction that lacks nothing has levels 0
@@ -41,18 +40,21 @@ pub fn coded(quantizer: Quantizer, neighbours: &[u8], flags: u8, samples: &[u8])
     requires { (quantizer.qp ≤ highest) × (length neighbours.now ≡ 13) × (length samples.now ≡ 16) }
     ensures { Carries quantizer.qp (mask neighbours.now flags) samples.now result }
 {
-    let choice = intra4::inner::chosen(neighbours, flags, samples);
-    let prediction = choice.prediction;
+    let Choice {
+        mode,
+        sad,
+        prediction,
+    } = intra4::inner::chosen(neighbours, flags, samples);
     let mut levels = [0i32; 16];
     let mut rebuilt = prediction;
-    if 0 < choice.sad {
+    if 0 < sad {
         let raster = residual::inner::quantized(quantizer, lacking(samples, prediction));
         levels = residual::inner::in_zigzag(raster);
         rebuilt = residual::inner::rebuilt(quantizer, prediction, raster);
     }
     Block {
-        mode: choice.mode,
-        sad: choice.sad,
+        mode,
+        sad,
         levels,
         rebuilt,
     }

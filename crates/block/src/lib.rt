@@ -4,8 +4,9 @@
 
 ghost use Rattle.block.specs.Entry.{Codes};
 
+use inner::Block;
 use intra4::Chosen;
-use quantizer::{Built, Quantizer};
+use quantizer::Quantizer;
 use refusal::Refusal;
 
 pub mod inner;
@@ -19,33 +20,28 @@ pub fn code_block(
     samples: &[u8],
     levels: &mut [i32],
     rebuilt: &mut [u8],
-) -> Chosen
+) -> Result<Chosen, Refusal>
     ensures { Codes qp flags neighbours.now samples.now levels.old rebuilt.old result levels.new rebuilt.new }
 {
     if neighbours.len() != 13 {
-        return Chosen::Refused(Refusal::Length);
+        return Err(Refusal::Length);
     }
     if samples.len() != 16 {
-        return Chosen::Refused(Refusal::Length);
+        return Err(Refusal::Length);
     }
     if levels.len() != 16 {
-        return Chosen::Refused(Refusal::Length);
+        return Err(Refusal::Length);
     }
     if rebuilt.len() != 16 {
-        return Chosen::Refused(Refusal::Length);
+        return Err(Refusal::Length);
     }
     if 15 < flags {
-        return Chosen::Refused(Refusal::Flags(0));
+        return Err(Refusal::Flags(0));
     }
-    match Quantizer::new(qp) {
-        Built::Refused(refusal) => Chosen::Refused(refusal),
-        Built::Legal(quantizer) => {
-            let block = inner::coded(quantizer, neighbours, flags, samples);
-            let made = block.levels;
-            let back = block.rebuilt;
-            whole::inner::copy(&made, levels);
-            rebuilt.copy_from_slice(&back);
-            Chosen::Mode(block.mode, block.sad)
-        }
-    }
+    let quantizer = Quantizer::new(qp)?;
+    let block = inner::coded(quantizer, neighbours, flags, samples);
+    levels.copy_from_slice(&block.levels);
+    rebuilt.copy_from_slice(&block.rebuilt);
+    let Block { mode, sad, .. } = block;
+    Ok(Chosen { mode, sad })
 }

@@ -4,8 +4,6 @@ ghost use Rattle.choice.specs.Choice as paper;
 ghost use Rattle.choice.specs.Choice.{is, nothing};
 ghost use Rattle.choice.specs.Code.{standing, looked};
 
-use whole::inner::gap;
-
 // The best mode so far and its cost.
 #[derive(Clone, Copy)]
 pub struct Standing {
@@ -13,25 +11,26 @@ pub struct Standing {
     pub cost: u32,
 }
 
-// The sum of absolute differences of samples, as many as 16x16.
+// The sum of absolute differences of samples, as many as 16x16. The bound on b tells the compiler that the two end together: without it the pairs are not
+// taken sixteen at once.
 pub fn sad(a: &[u8], b: &[u8]) -> u16
     requires { (length a.now ≡ length b.now) × (length a.now ≤ 256) }
     ensures { (result ≡ paper.sad (length a.now) a.now b.now) × (result ≤ 255 * length a.now) }
 {
-    let mut sum: u16 = 0;
-    for k in 0..a.len() {
-        sum += gap(a[k], b[k]) as u16;
-    }
-    sum
+    a.iter()
+        .zip(b[..a.len()].iter())
+        .map(|(x, y)| u16::from(x.abs_diff(*y)))
+        .sum()
 }
 
-// Before any mode is looked at: a cost above any other.
+// Before any mode is looked at, and for a candidate that is not coded: a cost above any other, which loses each comparison as it stands, where an
+// `Option` would have to be taken apart first.
 pub fn unsettled() -> Standing
     ensures { result ≡ standing nothing }
 {
     Standing {
         mode: 0,
-        cost: 4294967295,
+        cost: u32::MAX,
     }
 }
 

@@ -1,17 +1,17 @@
 -- The search over the four modes, for both planes.
 --     tried_is                    what a permitted mode costs in one plane
---     looked_at, looked_past      one mode is looked at, or is not permitted
+--     looked_past                 one mode is not permitted
 --     found_permitted, found      what the search leaves, and the choice of its mode's samples
 --     same_picks_for_both         a choice has one outcome
 -- Assumes nothing.
-use mathlib.Core.Path.{◌≡◌, refl, sym, ap, subst, ◌∙◌}
+use mathlib.Core.Path.{◌≡◌, refl, sym, ap, ◌∙◌}
 use mathlib.Core.Bool.{true, false}
 use mathlib.Core.List.{List}
-use Prim.Native.Nat.{ℕ, ◌+◌, ◌*◌, ◌<◌, ◌≤◌}
+use Prim.Native.Nat.{ℕ, ◌*◌, ◌≤◌}
 use native.Mathlib.Omega.{arith}
 use lib.ListN.{length}
 use Rattle.choice.specs.declared.inner.Standing.{Standing}
-use Rattle.choice.specs.Choice.{Cost, is, at, sad}
+use Rattle.choice.specs.Choice.{is, at, sad}
 use Rattle.choice.specs.Code.{standing, looked, Small}
 use Rattle.intra4.specs.Samples.{Round}
 use Rattle.intra4.specs.Rules.{none, samples_of}
@@ -19,7 +19,7 @@ use Rattle.intra4.specs.Choice.{cost_of}
 use Rattle.sides.specs.Samples.{mask}
 use Rattle.sides.proofs.Found.{cost_is, same_best}
 use Rattle.chroma.specs.Rules.{predicted, permitted}
-use Rattle.chroma.specs.Choice.{cost_sum, both_costs, chosen_for_both, PicksForBoth}
+use Rattle.chroma.specs.Choice.{both_costs, chosen_for_both, PicksForBoth}
 use Rattle.chroma.proofs.Masked.{predicted_is, none_exactly_if}
 use Rattle.chroma.proofs.Least.{mode_for_both_law}
 
@@ -31,15 +31,6 @@ pub tried_is : (l : List ℕ) (f m : ℕ) (block : List ℕ) {t : List ℕ} {d :
 tried_is l f m block p e long s low = (cost_is 8 block (permitted f m) _ (predicted_is l f m) p e long s, omega arith)
 
 module _ (f : ℕ) (l l' cb cr : List ℕ) (m : ℕ) (b : Standing) where
-  -- d and e are the SADs of Cb and Cr
-  pub looked_at : {d e : ℕ} {r : Standing} → (is d ≡ cost_of 8 cb (predicted (mask 8 l f) m)) × (d ≤ 16320)
-      → (is e ≡ cost_of 8 cr (predicted (mask 8 l' f) m)) × (e ≤ 16320) → r ≡ looked m (is (d + e)) b
-      → (r ≡ looked m (both_costs (mask 8 l f) (mask 8 l' f) cb cr m) b) × Small (both_costs (mask 8 l f) (mask 8 l' f) cb cr m)
-  looked_at {d} {e} p q h =
-      let c : is (d + e) ≡ both_costs (mask 8 l f) (mask 8 l' f) cb cr m = λ i. cost_sum (p.0 i) (q.0 i) in
-      let w : d + e < 4294967295 = omega (arith, p.1, q.1) in
-      (h ∙ ap (λ (z : Cost). looked m z b) c, subst Small c w)
-
   pub looked_past : permitted f m ≡ false
       → (b ≡ looked m (both_costs (mask 8 l f) (mask 8 l' f) cb cr m) b) × Small (both_costs (mask 8 l f) (mask 8 l' f) cb cr m)
   looked_past p = let e : predicted (mask 8 l f) m ≡ none = (none_exactly_if l f m).1 p in rw e (refl, tt)

@@ -1,4 +1,5 @@
-// What the crates above call, without tests. Lent are the corner, the eight samples above, the eight at the left.
+// What the crates above call, without tests. Lent are the corner, the eight samples above, the eight at the left. Modes and flags
+// are numbers, as in `intra4`.
 ghost use Rattle.std.specs.Prelude.{◌≡◌, true, length};
 ghost use Rattle.intra4.specs.Rules.{samples_of};
 ghost use Rattle.sides.specs.Samples.{mask};
@@ -10,7 +11,9 @@ use choice::inner::Standing;
 use intra4::inner::{all, flag};
 use sides::inner::{put_plane, put_side};
 
-// What the mode needs is present. A number above 3 is no mode.
+// What the mode needs is present. A number above 3 is no mode. This and `fill` are not those of `sides`: a `match` each over another table of the
+// standard, which has the numbers of DC and of vertical the other way round.
+#[tactic(auto, unfolding(crate::specs::Rules::permitted))]
 pub fn permitted(flags: u8, mode: u8) -> bool
     ensures { result ≡ standard.permitted flags mode }
 {

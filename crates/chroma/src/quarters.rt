@@ -12,10 +12,10 @@ use sides::inner::mean;
 fn instead(first: bool, second: bool) -> bool
     ensures { result ≡ cond first false second }
 {
-    if first { false } else { second }
+    !first && second
 }
 
-// The mean beside the quarter in column u, row v.
+// The mean beside the quarter in column u, row v. Flags beside the sides, here and in `means`, since `mean`, which each quarter calls, takes them.
 fn quarter_mean(u: usize, v: usize, above: &[u8], left: &[u8], first: bool, second: bool) -> u8
     requires { (u < 2) × (v < 2) × (length above.now ≡ 8) × (length left.now ≡ 8) }
     ensures { result ≡ paper.mean 4 (along_of u (side_if first above.now)) (along_of v (side_if second left.now)) }
@@ -37,7 +37,7 @@ pub(crate) fn means(above: &[u8], left: &[u8], first: bool, second: bool) -> [u8
     [upper_left, upper_right, lower_left, lower_right]
 }
 
-// Each quarter's mean in all its places.
+// Each quarter's mean in all its places. `sides::inner::put_side` says why the loop is this crate's own.
 pub(crate) fn put_quarters(means: [u8; 4], out: &mut [u8])
     requires { length out.old ≡ 64 }
     ensures { out.new ≡ grid 8 (λ x y. quarter_at means (x / 4) (y / 4)) }

@@ -3,7 +3,7 @@
 --     luma_back, chroma_back            g of levels of 16 bits
 --     scaled_by_law                         n numbers rescaled by a rule
 --     chroma_shift, chroma_values_length       chroma's plain shift, and that its values are four
---     dc_values_length                  as many values as levels, of either path
+--     dc_values_length, by_level_length as many values as levels, of either path
 -- Assumes nothing.
 use mathlib.Core.Path.{◌≡◌, sym, ap, ◌∙◌}
 use mathlib.Core.List.{List}
@@ -27,7 +27,8 @@ use Rattle.quantizer.specs.declared.Class.TheVariants.{A}
 use Rattle.quantizer.proofs.Tables.{v_small}
 use Rattle.residual.specs.Rescale.{Scalable}
 use Rattle.residual.proofs.Rescale.{scalable}
-use Rattle.dc.specs.Dc.{DcCount, v_a, luma_scaled, luma_values, chroma_scaled, chroma_values, dc_values}
+use Rattle.residual.proofs.Order.{length_zigzag}
+use Rattle.dc.specs.Dc.{DcCount, v_a, luma_scaled, luma_values, chroma_scaled, chroma_values, dc_values, by_level}
 use Rattle.dc.proofs.Levels.{by_count}
 
 -- ---- bounds
@@ -75,3 +76,8 @@ chroma_values_length qp levels = length_tab 4 _
 pub dc_values_length : (n : ℕ) → DcCount n → (qp : ℕ) (levels : List ℤ) → length (dc_values n qp levels) ≡ n
 unfolding dc_values luma_values luma_scaled
 dc_values_length n one qp levels = by_count (λ k. length (dc_values k qp levels) ≡ k) (length_tab 16 _) (chroma_values_length qp levels) n one
+
+-- also in the order of their levels
+pub by_level_length : (n : ℕ) → DcCount n → (qp : ℕ) (levels : List ℤ) → length (by_level n (dc_values n qp levels)) ≡ n
+unfolding dc_values
+by_level_length n one qp levels = by_count (λ k. length (by_level k (dc_values k qp levels)) ≡ k) (length_zigzag (luma_values qp levels)) (chroma_values_length qp levels) n one

@@ -63,3 +63,7 @@ dc_levels n qp dc = cond (eqb n 16) (luma_levels qp dc) (chroma_levels qp dc)
 
 unfoldable pub dc_values : (n qp : ℕ) → List ℤ → List ℤ
 dc_values n qp levels = cond (eqb n 16) (luma_values qp levels) (chroma_values qp levels)
+
+-- n values in the order of their levels
+abbrev pub by_level : ℕ → List ℤ → List ℤ
+by_level n values = cond (eqb n 16) (in_zigzag values) values

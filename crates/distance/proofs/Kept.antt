@@ -18,10 +18,9 @@ use lib.ListN.{get_or}
 use Rattle.lists.specs.Chain.{pass, chain}
 use Rattle.lists.specs.Bytes.{Bytes}
 use Rattle.lists.proofs.Chain.{holds_new}
-use Rattle.refusal.specs.Number as answer
+use Rattle.refusal.specs.Number.{said, value_back}
 use Rattle.refusal.proofs.Same.{says_same}
 use Rattle.quantizer.specs.Range.{number_tests}
-use Rattle.intra4.specs.Entry.{said_chosen}
 use Rattle.residual.specs.Entry.{rebuild_tests}
 use Rattle.residual.specs.Levels.{levels_of}
 use Rattle.residual.specs.Rebuild.{rescaled_of, rebuilt_samples}
@@ -31,24 +30,24 @@ use Rattle.block.specs.Block.{residual_of}
 use Rattle.block.proofs.code_block.Kinds as code_block
 use Rattle.block.proofs.code_block.Reads as code_block_reads
 use Rattle.distance.specs.Distance.{promise_of, numbers_sent, distance_at, Kept}
-use Rattle.distance.specs.Entry.{samples_off, said_promised, value_of}
+use Rattle.distance.specs.Entry.{samples_off}
 use Rattle.distance.proofs.Distance.{distance, coded_left_near}
 use Rattle.distance.proofs.promised_distance.Kinds as promised_distance
 use Rattle.distance.proofs.promised_distance.Reads as promised_distance_reads
 
 pub promise_kept : (κs : Lfts 0) (a : Dens κs promised_distance.ps) (r : (res_t promised_distance.r κs).Denot) (e : AtExit (ended_of 0 promised_distance.ps promised_distance.r) κs)
     → promised_distance_reads.Learnt κs a r e
-    → said_promised r ≡ pass
-    → (original prediction : List ℕ) → Bytes original → Bytes prediction → (place : ℕ) → place < 16 → Kept (value_of r) a.0 original prediction place
+    → said r ≡ pass
+    → (original prediction : List ℕ) → Bytes original → Bytes prediction → (place : ℕ) → place < 16 → Kept (value_back r) a.0 original prediction place
 promise_kept κs a r e p done original prediction own near place l =
     let n = distance a.0 original prediction own near place l in
     let passed : chain (number_tests a.0) ≡ pass = sym (says_same p.says) ∙ done in
-    let is : value_of r ≡ samples_off a.0 = holds_new 0 passed p.value in
+    let is : value_back r ≡ samples_off a.0 = holds_new 0 passed p.value in
     record { before = omega (arith, is, n.before); after = omega (arith, is, n.after) }
 
 pub rebuild_near : (κs : Lfts 3) (a : Dens κs rebuild.ps) (r : (res_t rebuild.r κs).Denot) (e : AtExit (ended_of 3 rebuild.ps rebuild.r) κs)
     → rebuild_reads.Learnt κs a r e
-    → answer.said r ≡ pass
+    → said r ≡ pass
     → (original : List ℕ) → Bytes original → Bytes a.1.0.now
     → a.1.1.0.now ≡ levels_of a.0 (residual_of original a.1.0.now)
     → (place : ℕ) → place < 16 → 384 * distance_at original place (pos (get_or e.1.1.1.0.now place 0)) ≤ promise_of a.0
@@ -62,7 +61,7 @@ rebuild_near κs a r e p done original own near sent place l =
 
 pub code_block_near : (κs : Lfts 4) (a : Dens κs code_block.ps) (r : (res_t code_block.r κs).Denot) (e : AtExit (ended_of 4 code_block.ps code_block.r) κs)
     → code_block_reads.Learnt κs a r e
-    → said_chosen r ≡ pass
+    → said r ≡ pass
     → Bytes a.1.1.0.now → Bytes a.1.1.1.0.now
     → (place : ℕ) → place < 16 → 384 * distance_at a.1.1.1.0.now place (pos (get_or e.1.1.1.1.1.0.now place 0)) ≤ promise_of a.0
 code_block_near κs a r e p done near own place l =

@@ -7,23 +7,16 @@ ghost use Rattle.quantizer.specs.Range.{remainder_of};
 ghost use Rattle.distance.specs.Distance.{spread_of};
 ghost use Rattle.distance.specs.Entry.{Promises};
 
-use quantizer::{Built, Class, Quantizer};
+use quantizer::{Class, Quantizer};
 use refusal::Refusal;
-
-// The answer where a distance is asked for.
-#[derive(Clone, Copy)]
-pub enum Promised {
-    Most(u16),
-    Refused(Refusal),
-}
 
 // 16a+24c+9b of a quantizer.
 fn spread(quantizer: Quantizer) -> u32
     ensures { (result ≡ spread_of (remainder_of quantizer.qp)) × (result ≤ 1101) }
 {
-    let a = quantizer.v(Class::A) as u32;
-    let b = quantizer.v(Class::B) as u32;
-    let c = quantizer.v(Class::C) as u32;
+    let a = u32::from(quantizer.v(Class::A));
+    let b = u32::from(quantizer.v(Class::B));
+    let c = u32::from(quantizer.v(Class::C));
     16 * a + 24 * c + 9 * b
 }
 
@@ -37,14 +30,9 @@ fn whole_samples(spread: u32, period: u8) -> u16
 }
 
 // A distance such that no rebuilt sample of a 4x4 block without a DC path is farther off its original, or the refusal.
-pub fn promised_distance(qp: u8) -> Promised
+pub fn promised_distance(qp: u8) -> Result<u16, Refusal>
     ensures { Promises qp result }
 {
-    match Quantizer::new(qp) {
-        Built::Refused(refusal) => Promised::Refused(refusal),
-        Built::Legal(quantizer) => Promised::Most(whole_samples(
-            spread(quantizer),
-            quantizer.period(),
-        )),
-    }
+    let quantizer = Quantizer::new(qp)?;
+    Ok(whole_samples(spread(quantizer), quantizer.period()))
 }

@@ -20,43 +20,32 @@ use Rattle.picture.specs.Plane.{layout_of}
 use Rattle.picture.proofs.Plane.{samples_fit}
 use Rattle.sheet.specs.Entry.{write_tests}
 use Rattle.sheet.specs.Errors.{sample_count}
-use Rattle.sheet.specs.Means.{Given, nothing, given, given_of, means_of, area_of}
+use Rattle.sheet.specs.Means.{given_of, means_of, area_of}
 use Rattle.sheet.specs.Promises.{rounded_once, OfEach, AgreeInPresent}
 use Rattle.sheet.specs.declared.Sheet.{Sheet}
 use Rattle.sheet.proofs.Absent.{given_same}
 use Rattle.sheet.proofs.Answers.{none_given, given_outcome}
 use Rattle.sheet.proofs.Exact.{each_rounded}
+use Rattle.sheet.proofs.Given.{given}
 use Rattle.sheet.proofs.Outcome.{sound_of}
 use Rattle.fleecebutton.specs.Sends.{QualitySheetSends}
 use Rattle.fleecebutton.specs.Word.{word_of, sheet_value}
 use Rattle.fleecebutton.proofs.Told.{passed_word}
 use Rattle.fleecebutton.proofs.fb_quality_sheet.Kinds as quality_sheet
 use Rattle.fleecebutton.proofs.fb_quality_sheet.Reads as quality_sheet_reads
+use Rattle.std.specs.Prelude.{Option, Some, None}
 
 -- what the value tells
-value_none : (g : Given) → sheet_value g ≡ 0 → g ≡ nothing
-value_none nothing e = refl
-value_none (given s) e = absurd (omega arith)
+value_none : (g : Option Sheet) → sheet_value g ≡ 0 → g ≡ None
+value_none None e = refl
+value_none (Some s) e = absurd (omega arith)
 
-value_some : (g : Given) → sheet_value g ≡ 1 → (s : Sheet) × (g ≡ given s)
-value_some nothing e = absurd (omega arith)
-value_some (given s) e = (s, refl)
+value_some : (g : Option Sheet) → sheet_value g ≡ 1 → (s : Sheet) × (g ≡ Some s)
+value_some None e = absurd (omega arith)
+value_some (Some s) e = (s, refl)
 
 module _ (κs : Lfts 4) (a : Dens κs quality_sheet.ps) where
-  abbrev width : ℕ
-  width = a.0
-
-  abbrev height : ℕ
-  height = a.1.0
-
-  abbrev original : List ℕ
-  original = a.1.1.0.now
-
-  abbrev rebuilt : List ℕ
-  rebuilt = a.1.1.1.0.now
-
-  abbrev map : List ℕ
-  map = a.1.1.1.1.0.now
+  open given a use {width, height, original, rebuilt, map}
 
   -- the area at entry
   abbrev out : List Float
@@ -84,7 +73,7 @@ module _ (κs : Lfts 4) (a : Dens κs quality_sheet.ps) where
         if : AllPass (write_tests width height original rebuilt map out) × ((m : ℕ) → m < width * height → get_or map m 0 ≡ 0) → w ≡ 0
         if h =
             let v = (chain_exactly_if (write_tests width height original rebuilt map out)).passes.1 h.0 in
-            valued v ∙ ap (λ (g : Given). 256 * sheet_value g) ((none_given width height original rebuilt map h.0.1.1).1 h.1)
+            valued v ∙ ap (λ (g : Option Sheet). 256 * sheet_value g) ((none_given width height original rebuilt map h.0.1.1).1 h.1)
 
     -- "divided once": where the value is 1 the area holds a sheet, each mean of which is the double nearest to the exact fraction
     pub fb_one_rounding : w ≡ 256 → Bytes original → Bytes rebuilt
@@ -106,17 +95,17 @@ module _ (κs : Lfts 4) (a : Dens κs quality_sheet.ps) where
 -- agree in every macroblock present, the words are the same, and what the areas hold
 pub fb_absent_has_no_value : (κs κs' : Lfts 4) (a : Dens κs quality_sheet.ps) (a' : Dens κs' quality_sheet.ps) (w : (res_t quality_sheet.r κs).Denot) (w' : (res_t quality_sheet.r κs').Denot)
     (e : AtExit (ended_of 4 quality_sheet.ps quality_sheet.r) κs) (e' : AtExit (ended_of 4 quality_sheet.ps quality_sheet.r) κs')
-    → width κs' a' ≡ width κs a
-    → height κs' a' ≡ height κs a
-    → map κs' a' ≡ map κs a
+    → (given a').width ≡ (given a).width
+    → (given a').height ≡ (given a).height
+    → (given a').map ≡ (given a).map
     → out κs' a' ≡ out κs a
-    → AgreeInPresent (layout_of (width κs a) (height κs a)) (map κs a) (original κs a) (original κs' a')
-    → AgreeInPresent (layout_of (width κs a) (height κs a)) (map κs a) (rebuilt κs a) (rebuilt κs' a')
+    → AgreeInPresent (layout_of (given a).width (given a).height) (given a).map (given a).original (given a').original
+    → AgreeInPresent (layout_of (given a).width (given a).height) (given a).map (given a).rebuilt (given a').rebuilt
     → quality_sheet_reads.Learnt κs a w e
     → quality_sheet_reads.Learnt κs' a' w' e'
     → (w ≡ w') × (e.1.1.1.1.1.0.now ≡ e'.1.1.1.1.1.0.now)
 fb_absent_has_no_value κs κs' a a' w w' e e' sw sh sm so o b p q =
-    let q' = coe 0 1 (i. QualitySheetSends (sw i) (sh i) (original κs' a') (rebuilt κs' a') (sm i) (so i) w' e'.1.1.1.1.1.0.now) q in
-    let v : chain (write_tests (width κs a) (height κs a) (original κs a) (rebuilt κs a) (map κs a) (out κs a)) ≡ chain (write_tests (width κs a) (height κs a) (original κs' a') (rebuilt κs' a') (map κs a) (out κs a)) = rw (o.long, b.long) in
-    let g = given_same (layout_of (width κs a) (height κs a)) (map κs a) (original κs a) (rebuilt κs a) (original κs' a') (rebuilt κs' a') o b in
+    let q' = coe 0 1 (i. QualitySheetSends (sw i) (sh i) (given a').original (given a').rebuilt (sm i) (so i) w' e'.1.1.1.1.1.0.now) q in
+    let v : chain (write_tests (given a).width (given a).height (given a).original (given a).rebuilt (given a).map (out κs a)) ≡ chain (write_tests (given a).width (given a).height (given a').original (given a').rebuilt (given a).map (out κs a)) = rw (o.long, b.long) in
+    let g = given_same (layout_of (given a).width (given a).height) (given a).map (given a).original (given a).rebuilt (given a').original (given a').rebuilt o b in
     (p.sends.word ∙ (λ i. word_of (v i) (sheet_value (g i))) ∙ sym q'.sends.word, p.sends.wrote ∙ (λ i. written (v i) (area_of (g i) (out κs a)) (out κs a)) ∙ sym q'.sends.wrote)

@@ -2,12 +2,14 @@
 --     says_sent, sent       where no value comes back
 --     value_sent          where a value comes back, which counts on success only
 --     choice_sent, head_sent     a mode and its SAD; width and height
+--     mapped                     what is told of an answer whose success is mapped to a number
 -- Assumes nothing.
 use mathlib.Core.Path.{◌≡◌, refl, ap, ◌∙◌}
 use mathlib.Core.List.{List}
 use Prim.Native.Nat.{ℕ}
 use Rattle.lists.specs.Chain.{Test, Verdict, pass, stop, chain, written}
-use Rattle.refusal.specs.Number.{Says}
+use Rattle.std.specs.Prelude.{Err, IsOkAnd, MatchResult, Ok, Result}
+use Rattle.refusal.specs.Number.{Says, said, value_back}
 use Rattle.refusal.specs.declared.Refusal.{Refusal}
 use Rattle.refusal.proofs.Same.{says_same}
 use Rattle.intra4.specs.Choice.{Best, nothing}
@@ -57,3 +59,24 @@ pub head_sent : (v' : Verdict Refusal) (width height rows : ℕ) {v : Verdict Re
     → w ≡ word_of v' (head_value width height rows)
 head_sent v' width height rows {v} {x} {y} {z} s e g f h =
     says_sent (head_value x y z) s h ∙ (λ i. word_of v' (head_value (e i) (g i) (f i))) ∙ head_passed v' width height rows
+
+-- the word tells of a mapped answer what is read of the answer itself: `read` finds 0 in a refusal
+pub record Mapped {T : Type 0} (read : Result T Refusal → ℕ) (r : Result T Refusal) (s : Result ℕ Refusal) : Type 0 where
+  pub tells : value_back s ≡ read r
+  pub says : said s ≡ said r
+
+pub mapped : {T : Type 0} {post : T → ℕ → Type 0} (read : Result T Refusal → ℕ) (r : Result T Refusal) (s : Result ℕ Refusal)
+    → MatchResult r (λ x. IsOkAnd s (post x)) (λ e. s ≡ Err e)
+    → ((x : T) (n : ℕ) → post x n → n ≡ read (Ok x))
+    → ((e : Refusal) → 0 ≡ read (Err e))
+    → Mapped read r s
+mapped read (Ok x) (Ok n) p made none = record { tells = made x n p; says = refl }
+mapped read (Ok x) (Err e) p made none = absurd p
+mapped read (Err e) s p made none = rw p (record { tells = none e; says = refl })
+
+-- the word of the mapped answer
+pub word_mapped : {T : Type 0} {read : Result T Refusal → ℕ} {r : Result T Refusal} {s : Result ℕ Refusal} {w : ℕ}
+    → Mapped read r s
+    → w ≡ word_of (said s) (value_back s)
+    → w ≡ word_of (said r) (read r)
+word_mapped m h = h ∙ (λ i. word_of (m.says i) (m.tells i))

@@ -1,5 +1,5 @@
-// The codec by words: each function calls the entry point of its name and sends back one word (`word`, include/fleecebutton.h). C has these functions
-// by the crate `fleecebutton_c`.
+// The codec by words: each function calls the entry point of its name (`fb_quality_sheet` the one that lays the sheet in an area) and sends back one word
+// (`word`, include/fleecebutton.h). C has these functions by the crate `fleecebutton_c`.
 
 #![tactic(auto)]
 
@@ -26,6 +26,8 @@ ghost use Rattle.fleecebutton.specs.Sends.{
   QualitySheetSends,
 };
 
+use frame::Decoded;
+
 mod word;
 
 // A mode's sixteen samples from the neighbours M, A to H, I to L.
@@ -39,7 +41,7 @@ pub fn fb_predict(neighbours: &[u8], flags: u8, mode: u8, out: &mut [u8]) -> u64
 pub fn fb_choose(neighbours: &[u8], flags: u8, samples: &[u8], prediction: &mut [u8]) -> u64
     ensures { ChooseSends neighbours.now flags samples.now prediction.old result prediction.new }
 {
-    word::of_chosen(intra4::choose(neighbours, flags, samples, prediction))
+    word::of_value(intra4::choose(neighbours, flags, samples, prediction).map(word::choice))
 }
 
 // The coefficients of sixteen residuals.
@@ -102,7 +104,8 @@ pub fn fb_chroma_dc_values(qp: u8, levels: &[i32], dc: &mut [i32]) -> u64
 pub fn fb_chroma_quantizer(qp: u8, offset: i32) -> u64
     ensures { ChromaQuantizerSends qp offset result }
 {
-    word::of_quantizer(quantizer::chroma_quantizer(qp, offset))
+    let chroma = quantizer::chroma_quantizer(qp, offset);
+    word::of_value(chroma.map(|quantizer| u64::from(quantizer.number())))
 }
 
 // A block's levels and rebuilt samples; its mode + 16 * SAD is the word's value.
@@ -116,14 +119,15 @@ pub fn fb_code_block(
 ) -> u64
     ensures { CodeBlockSends qp flags neighbours.now samples.now levels.old rebuilt.old result levels.new rebuilt.new }
 {
-    word::of_chosen(block::code_block(qp, flags, neighbours, samples, levels, rebuilt))
+    let coded = block::code_block(qp, flags, neighbours, samples, levels, rebuilt);
+    word::of_value(coded.map(word::choice))
 }
 
 // No rebuilt sample of `fb_code_block` is farther off its original than the word's value.
 pub fn fb_promised_distance(qp: u8) -> u64
     ensures { PromisedDistanceSends qp result }
 {
-    word::of_promised(distance::promised_distance(qp))
+    word::of_value(distance::promised_distance(qp).map(u64::from))
 }
 
 // The record file of a plane in slices of so many rows, and the plane that a decoder rebuilds from it; the bytes used are the word's value.
@@ -138,7 +142,8 @@ pub fn fb_code_plane(
 ) -> u64
     ensures { CodePlaneSends width height rows qp plane.now file.old rebuilt.old result file.new rebuilt.new }
 {
-    word::of_plane(plane::code_plane(width, height, rows, qp, plane, file, rebuilt))
+    let coded = plane::code_plane(width, height, rows, qp, plane, file, rebuilt);
+    word::of_value(coded.map(|used| used as u64))
 }
 
 // The same of a colour picture, whose chroma planes have quantizers of their own by their offsets from the QP.
@@ -159,16 +164,18 @@ pub fn fb_code_picture(
 ) -> u64
     ensures { CodePictureSends width height rows qp cb_offset cr_offset luma.now cb.now cr.now file.old luma_out.old cb_out.old cr_out.old result file.new luma_out.new cb_out.new cr_out.new }
 {
-    word::of_plane(frame::code_picture(
+    let coded = frame::code_picture(
         width, height, rows, qp, cb_offset, cr_offset, luma, cb, cr, file, luma_out, cb_out, cr_out,
-    ))
+    );
+    word::of_value(coded.map(|used| used as u64))
 }
 
 // The size of the picture whose file this is and the rows of a slice: width + 256 * height + 65536 * rows is the word's value.
 pub fn fb_read_head(file: &[u8]) -> u64
     ensures { ReadHeadSends file.now result }
 {
-    word::of_head(head::read_head(file))
+    let head = head::read_head(file);
+    word::of_value(head.map(|size| (size.width + 256 * size.height + 65536 * size.rows) as u64))
 }
 
 // The luma plane of a record file, mono or colour.
@@ -183,7 +190,12 @@ pub fn fb_decode_plane(file: &[u8], plane: &mut [u8]) -> u64
 pub fn fb_decode_picture(file: &[u8], luma: &mut [u8], cb: &mut [u8], cr: &mut [u8]) -> u64
     ensures { DecodePictureSends file.now luma.old cb.old cr.old result luma.new cb.new cr.new }
 {
-    word::of_decoded(frame::decode_picture(file, luma, cb, cr))
+    let decoded = frame::decode_picture(file, luma, cb, cr);
+    // A match and no cast: these are the header's numbers, whatever the order of the enum.
+    word::of_value(decoded.map(|planes| match planes {
+        Decoded::Mono => 0,
+        Decoded::Colour => 1,
+    }))
 }
 
 // Whether the decoder accepts a file and its luma plane is theirs: success exactly then. Nothing is written.
@@ -205,5 +217,6 @@ pub fn fb_quality_sheet(
 ) -> u64
     ensures { QualitySheetSends width height original.now rebuilt.now map.now out.old result out.new }
 {
-    word::of_sheeted(sheet::inner::write_sheet(width, height, original, rebuilt, map, out))
+    let sheet = sheet::inner::write_sheet(width, height, original, rebuilt, map, out);
+    word::of_value(sheet.map(|given| u64::from(given.is_some())))
 }

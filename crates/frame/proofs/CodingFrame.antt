@@ -29,7 +29,7 @@ use Rattle.macroblock.proofs.RecordFrom.{length_record_from}
 use Rattle.macroblock_chroma.specs.Code.{record_from_chroma, coded_step_chroma, mode_for_both, coded_chroma}
 use Rattle.macroblock_chroma.proofs.CodedRecord.{length_record_from_chroma}
 use Rattle.plane.specs.Code.{head_for, behind_head, plane_before, plane_from}
-use Rattle.plane.proofs.Coding.{Filled, same_area, filled_more}
+use Rattle.plane.proofs.Coding.{Filled, filled_more}
 use Rattle.frame.specs.Code.{records_from, records_on, both_before, both_from, frame_from, frame_area}
 use Rattle.frame.proofs.CodedFrame.{frame_to, length_frame_to, length_records_on}
 
@@ -38,7 +38,7 @@ use Rattle.frame.proofs.CodedFrame.{frame_to, length_frame_to, length_records_on
 -- `number`, `cb` and `cr` are the quantizer's and the offsets, as the call takes them
 pub records_made : (l : Layout) (qp : ℕ) (cb_offset cr_offset : ℤ) (luma : List ℕ) (chroma : Both) (m : ℕ) (before : List ℕ) (both : Both) (stood : List ℕ)
     → length_of in_fours + length_of in_chroma ≤ length stood
-    → {number end used more : ℕ} {cb cr : ℤ} {file back : List ℕ} → number ≡ qp → cb ≡ cb_offset → cr ≡ cr_offset → end ≡ length stood
+    → {number end used more : ℕ} {cb cr : ℤ} {file back : List ℕ} → number ≡ qp → cb ≡ cb_offset → cr ≡ cr_offset → end ≡ length file
     → used ≡ length (record_from l qp luma m before) → file ≡ over (record_from l qp luma m before) stood
     → more ≡ length_of in_chroma → back ≡ over (record_from_chroma l number cb cr chroma m both) (take (end - used) (drop used file))
     → Filled stood (records_from l qp cb_offset cr_offset luma chroma m before both) (put_mid used (end - used) file back) (used + more)
@@ -47,7 +47,7 @@ records_made l qp cb_offset cr_offset luma chroma m before both stood room {numb
     let second = length_record_from_chroma l qp cb_offset cr_offset chroma m both in
     let one : Filled stood (record_from l qp luma m before) file used = record { fits = omega (arith, first, room); filled = is-file; next = is-used } in
     filled_more stood one (record_from_chroma l qp cb_offset cr_offset chroma m both) (omega (arith, first, second, room))
-    (is-end ∙ sym (same_area stood one)) (is-more ∙ sym second)
+    is-end (is-more ∙ sym second)
     (is-back ∙ (λ i. over (record_from_chroma l (is_number i) (is-cb i) (is-cr i) chroma m both) (take (end - used) (drop used file))))
 
 -- ---- the loop over the macroblocks

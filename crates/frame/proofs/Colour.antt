@@ -16,7 +16,6 @@ use denote.Triple.Clauses.{AtExit}
 use borrow.Fn.Kinds.{Dens, res_t, ended_of}
 use Rattle.lists.specs.Chain.{Verdict, pass, chain}
 use Rattle.lists.proofs.Chain.{holds_new}
-use Rattle.refusal.specs.declared.Answer.TheVariants.{Done}
 use Rattle.refusal.specs.declared.Refusal.{Refusal}
 use Rattle.refusal.proofs.Faults.{false_not_true}
 use Rattle.refusal.proofs.Same.{says_same}
@@ -24,11 +23,13 @@ use Rattle.head.specs.Entry.{long_at}
 use Rattle.record.specs.Records.{colour_at}
 use Rattle.plane.specs.Decode.{Decodes}
 use Rattle.plane.proofs.Start.{decoded_is}
-use Rattle.frame.specs.Decode.{decode_picture_tests, said_decoded, colour_value, colour_number}
+use Rattle.frame.specs.Decode.{decode_picture_tests, colour_value, colour_number}
 use Rattle.frame.specs.declared.Decoded.TheVariants.{Mono, Colour}
 use Rattle.frame.proofs.Entry.{same_decoded}
 use Rattle.frame.proofs.decode_picture.Kinds as call
 use Rattle.frame.proofs.decode_picture.Reads as reads
+use Rattle.std.specs.Prelude.{Ok}
+use Rattle.refusal.specs.Number.{said}
 
 -- 1 is true's number alone, 0 is false's
 number_true : (b : Bool) → colour_number b ≡ 1 → b ≡ true
@@ -65,23 +66,23 @@ module _ (κs : Lfts 4) (a : Dens κs call.ps) (r : (res_t call.r κs).Denot) (e
   value_of : verdict ≡ pass → colour_value r ≡ colour_number colour
   value_of v = holds_new 0 v p.value
 
-  pub colour_exactly_if : (r ≡ Colour) ↔ ((verdict ≡ pass) × (colour ≡ true))
+  pub colour_exactly_if : (r ≡ Ok Colour) ↔ ((verdict ≡ pass) × (colour ≡ true))
   colour_exactly_if = (
     λ is.
-        let v : verdict ≡ pass = sym (says_same p.says) ∙ ap said_decoded is in
+        let v : verdict ≡ pass = sym (says_same p.says) ∙ ap said is in
         (v, number_true colour (sym (value_of v) ∙ ap colour_value is)),
-    λ h. same_decoded r Colour (says_same p.says ∙ h.0) (value_of h.0 ∙ ap colour_number h.1),
+    λ h. same_decoded r (Ok Colour) (says_same p.says ∙ h.0) (value_of h.0 ∙ ap colour_number h.1),
   )
 
-  pub mono_exactly_if : (r ≡ Mono) ↔ ((verdict ≡ pass) × (colour ≡ false))
+  pub mono_exactly_if : (r ≡ Ok Mono) ↔ ((verdict ≡ pass) × (colour ≡ false))
   mono_exactly_if = (
     λ is.
-        let v : verdict ≡ pass = sym (says_same p.says) ∙ ap said_decoded is in
+        let v : verdict ≡ pass = sym (says_same p.says) ∙ ap said is in
         (v, number_false colour (sym (value_of v) ∙ ap colour_value is)),
-    λ h. same_decoded r Mono (says_same p.says ∙ h.0) (value_of h.0 ∙ ap colour_number h.1),
+    λ h. same_decoded r (Ok Mono) (says_same p.says ∙ h.0) (value_of h.0 ∙ ap colour_number h.1),
   )
 
-  pub mono_keeps_chroma : r ≡ Mono → (e.1.1.0.now ≡ cb) × (e.1.1.1.0.now ≡ cr)
+  pub mono_keeps_chroma : r ≡ Ok Mono → (e.1.1.0.now ≡ cb) × (e.1.1.1.0.now ≡ cr)
   mono_keeps_chroma is =
       let h = mono_exactly_if.0 is in (
         holds_new cb h.0 p.cbs ∙ kept colour _ cb h.1,
@@ -89,5 +90,5 @@ module _ (κs : Lfts 4) (a : Dens κs call.ps) (r : (res_t call.r κs).Denot) (e
       )
 
   -- of a picture that was decoded, luma is what `decode_plane` leaves
-  pub same_luma : verdict ≡ pass → (before after : List ℕ) → Decodes file before Done after → e.1.0.now ≡ after
+  pub same_luma : verdict ≡ pass → (before after : List ℕ) → Decodes file before (Ok tt) after → e.1.0.now ≡ after
   same_luma v before after d = holds_new a.1.0.now v p.lumas ∙ sym (decoded_is file before after d)

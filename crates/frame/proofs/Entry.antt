@@ -13,42 +13,43 @@ use Rattle.lists.proofs.Chain.{chain_passed, chain_refused}
 use Rattle.refusal.specs.declared.Refusal.{Refusal}
 use Rattle.refusal.proofs.Same.{says, says_same}
 use Rattle.head.specs.declared.Head.{Head}
-use Rattle.head.specs.declared.Head.TheVariants as head_variants
-use Rattle.head.specs.Entry as head
 use Rattle.head.specs.Entry.{ReadsHead, head_tests, long_at}
 use Rattle.record.specs.Records.{colour_at}
 use Rattle.picture.specs.declared.Layout.{Layout}
 use Rattle.picture.specs.Plane.{plane_length}
 use Rattle.plane.specs.Decode.{luma_in, chroma_in, layout_in, cleared, decoded, decoded_plane}
 use Rattle.plane.proofs.Entry.{LegalHead}
-use Rattle.frame.specs.Decode.{picture_tests, cb_from, cr_from, cb_of, cr_of, said_decoded, colour_value, LeavesPlanes, DecodesPicture}
+use Rattle.frame.specs.Decode.{picture_tests, cb_from, cr_from, cb_of, cr_of, colour_value, LeavesPlanes, DecodesPicture}
 use Rattle.frame.specs.declared.Decoded.{Decoded}
-use Rattle.frame.specs.declared.Decoded.TheVariants.{Mono, Colour, Refused}
+use Rattle.frame.specs.declared.Decoded.TheVariants.{Mono, Colour}
+use Rattle.std.specs.Prelude.{Err, Result}
+use Rattle.refusal.specs.Number.{said}
+use Rattle.std.specs.Prelude.{Ok}
 
-pub same_decoded : (x y : Decoded) → said_decoded x ≡ said_decoded y → colour_value x ≡ colour_value y → x ≡ y
-same_decoded Mono Mono e g = λ i. Mono
-same_decoded Mono Colour e g = absurd (omega (arith, g))
-same_decoded Mono (Refused t) e g = cc
-same_decoded Colour Mono e g = absurd (omega (arith, g))
-same_decoded Colour Colour e g = λ i. Colour
-same_decoded Colour (Refused t) e g = cc
-same_decoded (Refused r) Mono e g = cc
-same_decoded (Refused r) Colour e g = cc
-same_decoded (Refused r) (Refused t) e g = let p : r ≡ t = cc in ap Refused p
+pub same_decoded : (x y : Result Decoded Refusal) → said x ≡ said y → colour_value x ≡ colour_value y → x ≡ y
+same_decoded (Ok Mono) (Ok Mono) e g = λ i. Ok Mono
+same_decoded (Ok Mono) (Ok Colour) e g = absurd (omega (arith, g))
+same_decoded (Ok Mono) (Err t) e g = cc
+same_decoded (Ok Colour) (Ok Mono) e g = absurd (omega (arith, g))
+same_decoded (Ok Colour) (Ok Colour) e g = λ i. Ok Colour
+same_decoded (Ok Colour) (Err t) e g = cc
+same_decoded (Err r) (Ok Mono) e g = cc
+same_decoded (Err r) (Ok Colour) e g = cc
+same_decoded (Err r) (Err t) e g = let p : r ≡ t = cc in ap Err p
 
 -- ---- by any verdict
 
 module _ {v : Verdict Refusal} (l : Layout) (place : ℕ) (file made luma cb cr : List ℕ) where
-  pub picture_refused : {r : Refusal} → v ≡ stop r → LeavesPlanes v l place file made luma cb cr (Refused r) luma cb cr
+  pub picture_refused : {r : Refusal} → v ≡ stop r → LeavesPlanes v l place file made luma cb cr (Err r) luma cb cr
   picture_refused e = record { says = says (sym e); value = simp e; lumas = simp e; cbs = simp e; crs = simp e }
 
   module _ (e : v ≡ pass) {luma' : List ℕ} (is : luma' ≡ made) where
-    pub picture_mono : colour_at place file ≡ false → LeavesPlanes v l place file made luma cb cr Mono luma' cb cr
+    pub picture_mono : colour_at place file ≡ false → LeavesPlanes v l place file made luma cb cr (Ok Mono) luma' cb cr
     picture_mono mono = record { says = says (sym e); value = simp (e, mono); lumas = simp e is; cbs = simp (e, mono); crs = simp (e, mono) }
 
     pub picture_colour : colour_at place file ≡ true → {cb' cr' : List ℕ}
         → cb' ≡ cb_from l (luma_in file place) (chroma_in file place) (cleared (plane_length 8 l)) → cr' ≡ cr_from l (luma_in file place) (chroma_in file place) (cleared (plane_length 8 l))
-        → LeavesPlanes v l place file made luma cb cr Colour luma' cb' cr'
+        → LeavesPlanes v l place file made luma cb cr (Ok Colour) luma' cb' cr'
     picture_colour colour {cb'} {cr'} is-cb is-cr =
         record {
           says = says (sym e);
@@ -61,12 +62,12 @@ module _ {v : Verdict Refusal} (l : Layout) (place : ℕ) (file made luma cb cr 
 -- ---- from the head on
 
 module _ (file luma cb cr : List ℕ) where
-  pub picture_head_refused : {h : Head} {r : Refusal} → ReadsHead file h → h ≡ head_variants.Refused r → DecodesPicture file luma cb cr (Refused r) luma cb cr
+  pub picture_head_refused : {h : Result Head Refusal} {r : Refusal} → ReadsHead file h → h ≡ Err r → DecodesPicture file luma cb cr (Err r) luma cb cr
   picture_head_refused {h} {r} p e =
       picture_refused (layout_in file) (long_at file) file (decoded_plane file) luma cb cr
-      (chain_refused (head_tests file) (picture_tests (layout_in file) (long_at file) file luma cb cr) r (sym (says_same p.says) ∙ ap head.said_head e))
+      (chain_refused (head_tests file) (picture_tests (layout_in file) (long_at file) file luma cb cr) r (sym (says_same p.says) ∙ ap said e))
 
-  pub picture_by : {l : Layout} {long : ℕ} {r : Decoded} {luma' cb' cr' : List ℕ} → LegalHead file l long
+  pub picture_by : {l : Layout} {long : ℕ} {r : Result Decoded Refusal} {luma' cb' cr' : List ℕ} → LegalHead file l long
       → LeavesPlanes (chain (picture_tests l long file luma cb cr)) l long file (decoded l (luma_in file long)) luma cb cr r luma' cb' cr'
       → DecodesPicture file luma cb cr r luma' cb' cr'
   picture_by {l} {long} {r} {luma'} {cb'} {cr'} h d =

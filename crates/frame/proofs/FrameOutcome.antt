@@ -1,9 +1,9 @@
--- What the tests of coding a picture come to, case by case, and what is known where it does not refuse.
---     bad_size, bad_rows, frame_refused, picture_coded     a law for each answer of the code
---     FrameOutcome, frame_outcome     where it answers `Bytes`, no test has failed: the file stands in the bytes used, and the rest keep theirs
+-- What the tests of coding a picture come to, and what is known where it does not refuse.
+--     frame_refused, picture_coded     a law for each answer of the code, where the size and the rows hold
+--     FrameOutcome, frame_outcome     where it answers `Ok`, no test has failed: the file stands in the bytes used, and the rest keep theirs
 -- Assumes nothing.
 use mathlib.Core.Path.{◌≡◌, refl, sym, ap, ◌∙◌}
-use mathlib.Core.Bool.{true, false}
+use mathlib.Core.Bool.{true}
 use mathlib.Core.List.{List}
 use Prim.Native.Nat.{ℕ, ◌≤◌}
 use native.Mathlib.Omega.{arith}
@@ -14,7 +14,6 @@ use Rattle.lists.specs.Chain.{pass, stop, chain}
 use Rattle.lists.specs.Parts.{over}
 use Rattle.lists.proofs.Chain.{chain_exactly_if, holds_new}
 use Rattle.refusal.specs.declared.Refusal.{Refusal}
-use Rattle.refusal.specs.declared.Refusal.TheVariants as refusal
 use Rattle.refusal.proofs.Same.{says, says_same}
 use Rattle.whole.specs.Notation.{minus}
 use Rattle.whole.specs.Range.{inside}
@@ -25,10 +24,10 @@ use Rattle.picture.specs.Both.{Both, pair}
 use Rattle.picture.specs.Plane.{plane_length}
 use Rattle.plane.specs.Code.{in_slices, plane_from, coded_plane}
 use Rattle.plane.specs.Decode.{cleared}
-use Rattle.plane.specs.declared.CodedPlane.TheVariants.{Bytes, Refused}
 use Rattle.frame.specs.Code.{frame_from, both_from, both_cleared, coded_frame, coded_both, frame_tests, code_picture_tests, CodesPicture}
 use Rattle.frame.proofs.CodedFrame.{length_coded_frame}
 use Rattle.frame.proofs.Tested.{PlanesFit, frame_told}
+use Rattle.std.specs.Prelude.{Err, Ok}
 
 -- ---- a law for each answer
 
@@ -41,16 +40,10 @@ module _ (width height rows qp : ℕ) (cb_offset cr_offset : ℤ) (luma cb cr fi
 
   -- nothing is written
   abbrev Untouched : Refusal → Type 0
-  Untouched r = CodesPicture width height rows qp cb_offset cr_offset luma cb cr file lumaOut cbOut crOut (Refused r) file lumaOut cbOut crOut
+  Untouched r = CodesPicture width height rows qp cb_offset cr_offset luma cb cr file lumaOut cbOut crOut (Err r) file lumaOut cbOut crOut
 
   refused : (r : Refusal) → chain (code_picture_tests width height rows qp cb_offset cr_offset luma cb cr file lumaOut cbOut crOut) ≡ stop r → Untouched r
   refused r e = record { says = says (sym e); used = simp e; filed = simp e; lumas = simp e; cbs = simp e; crs = simp e }
-
-  pub bad_size : size_holds width height ≡ false → Untouched refusal.Size
-  bad_size h = refused refusal.Size (simp h)
-
-  pub bad_rows : size_holds width height ≡ true → rows_hold height rows ≡ false → Untouched refusal.Size
-  bad_rows s h = refused refusal.Size (simp (s, h))
 
   module _ (s : size_holds width height ≡ true) (n : rows_hold height rows ≡ true) where
     rest : chain (code_picture_tests width height rows qp cb_offset cr_offset luma cb cr file lumaOut cbOut crOut)
@@ -69,7 +62,7 @@ module _ (width height rows qp : ℕ) (cb_offset cr_offset : ℤ) (luma cb cr fi
         → file' ≡ over (frame_from l number for-cb for-cr luma chroma start starts) file
         → lumaOut' ≡ plane_from l number luma start
         → pair cbOut' crOut' ≡ both_from l number for-cb for-cr chroma starts
-        → CodesPicture width height rows qp cb_offset cr_offset luma cb cr file lumaOut cbOut crOut (Bytes used) file' lumaOut' cbOut' crOut'
+        → CodesPicture width height rows qp cb_offset cr_offset luma cb cr file lumaOut cbOut crOut (Ok used) file' lumaOut' cbOut' crOut'
     picture_coded passed {number} {for-cb} {for-cr} {start} {starts} is_number is-cb is-cr is-start is-starts is-used is-file is-luma is-both =
         let e = rest ∙ passed in
         let made : frame_from l number for-cb for-cr luma chroma start starts ≡ coded_frame l qp cb_offset cr_offset luma chroma =
@@ -108,7 +101,7 @@ module _ (width height rows qp : ℕ) (cb_offset cr_offset : ℤ) (luma cb cr : 
   made = coded_frame (in_slices width height rows) qp cb_offset cr_offset luma (pair cb cr)
 
   pub frame_outcome : (file lumaOut cbOut crOut : List ℕ) (used : ℕ) (file' lumaOut' cbOut' crOut' : List ℕ)
-      → CodesPicture width height rows qp cb_offset cr_offset luma cb cr file lumaOut cbOut crOut (Bytes used) file' lumaOut' cbOut' crOut'
+      → CodesPicture width height rows qp cb_offset cr_offset luma cb cr file lumaOut cbOut crOut (Ok used) file' lumaOut' cbOut' crOut'
       → FrameOutcome width height rows qp cb_offset cr_offset luma cb cr file lumaOut cbOut crOut used file' lumaOut' cbOut' crOut'
   frame_outcome file lumaOut cbOut crOut used file' lumaOut' cbOut' crOut' c =
       let l = in_slices width height rows in

@@ -9,12 +9,12 @@ use contract.Lifetimes.{Lfts}
 use denote.Triple.Clauses.{AtExit}
 use borrow.Fn.Kinds.{Dens, res_t, ended_of}
 use lib.ListN.{length, drop}
-use Rattle.plane.specs.declared.CodedPlane.{CodedPlane}
-use Rattle.plane.specs.declared.CodedPlane.TheVariants.{Bytes}
 use Rattle.frame.specs.Code.{CodesPicture}
 use Rattle.frame.proofs.FrameOutcome.{frame_outcome}
 use Rattle.frame.proofs.code_picture.Kinds as call
 use Rattle.frame.proofs.code_picture.Reads as reads
+use Rattle.std.specs.Prelude.{Ok, Result}
+use Rattle.refusal.specs.declared.Refusal.{Refusal}
 
 module _ (κs : Lfts 7) (a : Dens κs call.ps) (r : (res_t call.r κs).Denot) (e : AtExit (ended_of 7 call.ps call.r) κs) (p : reads.Learnt κs a r e) where
   -- the file area, as it was lent and as it is left
@@ -24,7 +24,7 @@ module _ (κs : Lfts 7) (a : Dens κs call.ps) (r : (res_t call.r κs).Denot) (e
   abbrev left : List ℕ
   left = e.1.1.1.1.1.1.1.1.1.0.now
 
-  pub frame_rest_keeps : (used : ℕ) → r ≡ Bytes used → (used ≤ length lent) × (drop used left ≡ drop used lent)
+  pub frame_rest_keeps : (used : ℕ) → r ≡ Ok used → (used ≤ length lent) × (drop used left ≡ drop used lent)
   frame_rest_keeps used is =
       let luma = a.1.1.1.1.1.1.1.1.1.1.0.now in
       let cb = a.1.1.1.1.1.1.1.1.1.1.1.0.now in
@@ -34,7 +34,7 @@ module _ (κs : Lfts 7) (a : Dens κs call.ps) (r : (res_t call.r κs).Denot) (e
       let cr' = e.1.1.1.1.1.1.1.1.1.1.1.1.0.now in
       let c =
       subst
-      (λ (x : CodedPlane).
+      (λ (x : Result ℕ Refusal).
       CodesPicture a.0 a.1.0 a.1.1.0 a.1.1.1.0 a.1.1.1.1.0 a.1.1.1.1.1.0 a.1.1.1.1.1.1.0.now a.1.1.1.1.1.1.1.0.now a.1.1.1.1.1.1.1.1.0.now
       lent luma cb cr x left luma' cb' cr')
       is p in

@@ -19,10 +19,10 @@ use Rattle.macroblock.specs.Code.{coded_step}
 use Rattle.macroblock.proofs.Looks.{coded_step_law, record_looks}
 use Rattle.macroblock_chroma.proofs.Looks.{chroma_start_has_no_value, chroma_records_start_has_no_value}
 use Rattle.plane.specs.Code.{head_for, plane_before, plane_from}
-use Rattle.plane.specs.declared.CodedPlane.TheVariants.{Bytes}
 use Rattle.plane.proofs.CodedStart.{code_plane_start_has_no_value}
 use Rattle.frame.specs.Code.{both_before, both_from, records_on, frame_from, CodesPicture}
 use Rattle.frame.proofs.FrameOutcome.{frame_outcome}
+use Rattle.std.specs.Prelude.{Ok}
 
 module _ (l : Layout) (some : 0 < l.width) (qp : ℕ) (cb_offset cr_offset : ℤ) (luma : List ℕ) (chroma : Both)
     (p q : List ℕ) (this : length p ≡ plane_length 16 l) (that : length q ≡ plane_length 16 l) (b c : Both) (these : LongBoth 8 l b) (those : LongBoth 8 l c)
@@ -52,8 +52,8 @@ module _ (l : Layout) (some : 0 < l.width) (qp : ℕ) (cb_offset cr_offset : ℤ
 
 pub code_picture_entry_has_no_value : (width height rows qp : ℕ) (cb_offset cr_offset : ℤ) (luma cb cr file lumaOut cbOut crOut other-file other-luma other-cb other-cr : List ℕ)
     (used other-used : ℕ) (file' lumaOut' cbOut' crOut' file'' lumaOut'' cbOut'' crOut'' : List ℕ)
-    → CodesPicture width height rows qp cb_offset cr_offset luma cb cr file lumaOut cbOut crOut (Bytes used) file' lumaOut' cbOut' crOut'
-    → CodesPicture width height rows qp cb_offset cr_offset luma cb cr other-file other-luma other-cb other-cr (Bytes other-used) file'' lumaOut'' cbOut'' crOut''
+    → CodesPicture width height rows qp cb_offset cr_offset luma cb cr file lumaOut cbOut crOut (Ok used) file' lumaOut' cbOut' crOut'
+    → CodesPicture width height rows qp cb_offset cr_offset luma cb cr other-file other-luma other-cb other-cr (Ok other-used) file'' lumaOut'' cbOut'' crOut''
     → (used ≡ other-used) × (take used file' ≡ take other-used file'') × (lumaOut' ≡ lumaOut'') × (cbOut' ≡ cbOut'') × (crOut' ≡ crOut'')
 code_picture_entry_has_no_value width height rows qp cb_offset cr_offset luma cb cr file lumaOut cbOut crOut other-file other-luma other-cb other-cr used other-used file' lumaOut' cbOut' crOut' file'' lumaOut'' cbOut'' crOut'' c d =
     let x = frame_outcome width height rows qp cb_offset cr_offset luma cb cr file lumaOut cbOut crOut used file' lumaOut' cbOut' crOut' c in

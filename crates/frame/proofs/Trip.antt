@@ -20,7 +20,6 @@ use Rattle.lists.specs.Parts.{parts}
 use Rattle.lists.proofs.Chain.{chain_passed}
 use Rattle.lists.proofs.Chains.{chain_parts}
 use Rattle.lists.proofs.Fold.{fold_follow, fold_keeps}
-use Rattle.refusal.specs.declared.Answer.TheVariants.{Done}
 use Rattle.whole.specs.Notation.{minus}
 use Rattle.whole.specs.Range.{inside}
 use Rattle.quantizer.specs.Range.{highest}
@@ -54,6 +53,7 @@ use Rattle.frame.specs.declared.Decoded.TheVariants.{Colour}
 use Rattle.frame.proofs.CodedFrame.{chroma_on, own_luma_on, own_chroma_on}
 use Rattle.frame.proofs.Entry.{picture_colour, picture_by}
 use Rattle.frame.proofs.Tested.{planes_pass}
+use Rattle.std.specs.Prelude.{Ok}
 
 -- both planes of chroma before macroblock m are of bytes, as those that they began with
 pub both_bytes : (l : Layout) (qp : ℕ) (cb_offset cr_offset : ℤ) (chroma starts : Both) → BytesBoth starts → (m : ℕ) → BytesBoth (both_before l qp cb_offset cr_offset chroma starts m)
@@ -181,7 +181,7 @@ module _ (width height rows qp : ℕ) (cb_offset cr_offset : ℤ) (luma : List �
       (cleared_bytes (plane_length 16 layout)) both (both_cleared_bytes layout)
 
   pub own_frame_decodes : (out outCb outCr : List ℕ) → length out ≡ plane_length 16 layout → length outCb ≡ plane_length 8 layout → length outCr ≡ plane_length 8 layout
-      → DecodesPicture coded out outCb outCr Colour (coded_plane layout qp luma) (coded_both layout qp cb_offset cr_offset chroma).cb (coded_both layout qp cb_offset cr_offset chroma).cr
+      → DecodesPicture coded out outCb outCr (Ok Colour) (coded_plane layout qp luma) (coded_both layout qp cb_offset cr_offset chroma).cb (coded_both layout qp cb_offset cr_offset chroma).cr
   own_frame_decodes out outCb outCr room roomCb roomCr =
       let start = cleared (plane_length 16 layout) in
       let starts = both_cleared layout in
@@ -197,7 +197,7 @@ module _ (width height rows qp : ℕ) (cb_offset cr_offset : ℤ) (luma : List �
       (sym (cb_again layout qp cb_offset cr_offset luma chroma start starts some legal cbLegal crLegal bytes small both smalls))
       (sym (cr_again layout qp cb_offset cr_offset luma chroma start starts some legal cbLegal crLegal bytes small both smalls)))
 
-  pub own_frame_luma : (out : List ℕ) → length out ≡ plane_length 16 layout → Decodes coded out Done (coded_plane layout qp luma)
+  pub own_frame_luma : (out : List ℕ) → length out ≡ plane_length 16 layout → Decodes coded out (Ok tt) (coded_plane layout qp luma)
   own_frame_luma out room =
       let start = cleared (plane_length 16 layout) in
       let starts = both_cleared layout in

@@ -3,7 +3,7 @@ use Rattle.std.specs.Prelude.{◌≡◌, List, [], ◌∷◌, ◌++◌, ℕ, ◌
 use Rattle.lists.specs.Chain.{Test, test, Verdict, chain, written}
 use Rattle.lists.specs.Fold.{fold}
 use Rattle.lists.specs.Parts.{parts, over}
-use Rattle.refusal.specs.Number.{Says}
+use Rattle.refusal.specs.Number.{Says, said, value_back}
 use Rattle.refusal.specs.Tests.{length_test}
 use Rattle.refusal.specs.declared.Refusal.{Refusal}
 use Rattle.refusal.specs.declared.Refusal.TheVariants as refusal
@@ -17,10 +17,10 @@ use Rattle.picture.specs.Plane.{plane_length}
 use Rattle.macroblock.specs.Code.{record_from}
 use Rattle.macroblock_chroma.specs.Code.{record_from_chroma, coded_step_chroma}
 use Rattle.macroblock_chroma.specs.Content.{offset_test}
-use Rattle.plane.specs.Code.{in_slices, head_for, behind_head, plane_before, coded_plane, said_plane, bytes_used}
+use Rattle.plane.specs.Code.{in_slices, head_for, behind_head, plane_before, coded_plane}
 use Rattle.plane.specs.Decode.{cleared}
-use Rattle.plane.specs.declared.CodedPlane.{CodedPlane}
 use Rattle.frame.specs.Decode.{planes_tests}
+use Rattle.std.specs.Prelude.{Result}
 
 -- ---- the picture, from rebuilt planes at the start
 
@@ -81,9 +81,9 @@ code_picture_tests width height rows qp cb_offset cr_offset luma cb cr file luma
 
 -- what is left of the file area and the rebuilt planes by a verdict; the answer is `code_plane`'s: how many bytes were used, or the refusal
 pub record LeavesFrame (v : Verdict Refusal) (l : Layout) (qp : ℕ) (cb_offset cr_offset : ℤ) (luma : List ℕ) (chroma : Both) (file lumaOut cbOut crOut : List ℕ)
-    (r : CodedPlane) (file' lumaOut' cbOut' crOut' : List ℕ) : Type 0 where
-  pub says : Says (said_plane r) v
-  pub used : bytes_used r ≡ written v (length (coded_frame l qp cb_offset cr_offset luma chroma)) 0
+    (r : Result ℕ Refusal) (file' lumaOut' cbOut' crOut' : List ℕ) : Type 0 where
+  pub says : Says (said r) v
+  pub used : value_back r ≡ written v (length (coded_frame l qp cb_offset cr_offset luma chroma)) 0
   pub filed : file' ≡ written v (over (coded_frame l qp cb_offset cr_offset luma chroma) file) file
   pub lumas : lumaOut' ≡ written v (coded_plane l qp luma) lumaOut
   pub cbs : cbOut' ≡ written v (coded_both l qp cb_offset cr_offset chroma).cb cbOut
@@ -91,7 +91,7 @@ pub record LeavesFrame (v : Verdict Refusal) (l : Layout) (qp : ℕ) (cb_offset 
 
 -- what `code_picture` makes of them as they were
 abbrev pub CodesPicture : (width height rows qp : ℕ) (cb_offset cr_offset : ℤ) (luma cb cr file lumaOut cbOut crOut : List ℕ)
-    (r : CodedPlane) (file' lumaOut' cbOut' crOut' : List ℕ) → Type 0
+    (r : Result ℕ Refusal) (file' lumaOut' cbOut' crOut' : List ℕ) → Type 0
 CodesPicture width height rows qp cb_offset cr_offset luma cb cr file lumaOut cbOut crOut r file' lumaOut' cbOut' crOut' =
     LeavesFrame (chain (code_picture_tests width height rows qp cb_offset cr_offset luma cb cr file lumaOut cbOut crOut)) (in_slices width height rows)
     qp cb_offset cr_offset luma (pair cb cr) file lumaOut cbOut crOut r file' lumaOut' cbOut' crOut'

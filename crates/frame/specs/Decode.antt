@@ -1,8 +1,8 @@
 -- Decoding a picture: its luma plane, and of a colour file its planes of Cb and Cr (02, Req 05). Assumes nothing.
 use Rattle.std.specs.Prelude.{◌≡◌, Bool, cond, List, [], ◌∷◌, ◌++◌, ℕ, length}
-use Rattle.lists.specs.Chain.{Test, Verdict, pass, stop, chain, written}
+use Rattle.lists.specs.Chain.{Test, Verdict, chain, written}
 use Rattle.lists.specs.Fold.{fold}
-use Rattle.refusal.specs.Number.{Says}
+use Rattle.refusal.specs.Number.{said, Says}
 use Rattle.refusal.specs.Tests.{length_test}
 use Rattle.refusal.specs.declared.Refusal.{Refusal}
 use Rattle.head.specs.Entry.{head_tests, long_at}
@@ -13,7 +13,9 @@ use Rattle.picture.specs.Plane.{plane_length}
 use Rattle.macroblock_chroma.specs.Rebuild.{cb_step, cr_step}
 use Rattle.plane.specs.Decode.{luma_in, chroma_in, records_tests, layout_in, cleared, decoded_plane}
 use Rattle.frame.specs.declared.Decoded.{Decoded}
-use Rattle.frame.specs.declared.Decoded.TheVariants.{Mono, Colour, Refused}
+use Rattle.frame.specs.declared.Decoded.TheVariants.{Mono, Colour}
+use Rattle.std.specs.Prelude.{Err, Result}
+use Rattle.std.specs.Prelude.{Ok}
 
 -- ---- the tests
 
@@ -47,29 +49,24 @@ cr_of l place file before = cond (colour_at place file) (cr_from l (luma_in file
 
 -- ---- the entry point
 
--- what an answer says, and whether the picture is colour, 1, or mono, 0 (0 where refused): "the answer says mono"
-abbrev pub said_decoded : Decoded → Verdict Refusal
-said_decoded Mono = pass
-said_decoded Colour = pass
-said_decoded (Refused r) = stop r
-
-abbrev pub colour_value : Decoded → ℕ
-colour_value Mono = 0
-colour_value Colour = 1
-colour_value (Refused r) = 0
+-- whether the picture that comes back is colour, 1, or mono, 0 (0 where refused): "the answer says mono"
+abbrev pub colour_value : Result Decoded Refusal → ℕ
+colour_value (Ok Mono) = 0
+colour_value (Ok Colour) = 1
+colour_value (Err r) = 0
 
 abbrev pub colour_number : Bool → ℕ
 colour_number colour = cond colour 1 0
 
 -- the answer and the three planes by a verdict, of a file whose records begin at a place
-pub record LeavesPlanes (v : Verdict Refusal) (l : Layout) (place : ℕ) (file decoded : List ℕ) (luma cb cr : List ℕ) (r : Decoded) (luma' cb' cr' : List ℕ) : Type 0 where
-  pub says : Says (said_decoded r) v
+pub record LeavesPlanes (v : Verdict Refusal) (l : Layout) (place : ℕ) (file decoded : List ℕ) (luma cb cr : List ℕ) (r : Result Decoded Refusal) (luma' cb' cr' : List ℕ) : Type 0 where
+  pub says : Says (said r) v
   pub value : colour_value r ≡ written v (colour_number (colour_at place file)) 0
   pub lumas : luma' ≡ written v decoded luma
   pub cbs : cb' ≡ written v (cb_of l place file cb) cb
   pub crs : cr' ≡ written v (cr_of l place file cr) cr
 
 -- the planes of a file, or the refusal
-abbrev pub DecodesPicture : (file luma cb cr : List ℕ) (r : Decoded) (luma' cb' cr' : List ℕ) → Type 0
+abbrev pub DecodesPicture : (file luma cb cr : List ℕ) (r : Result Decoded Refusal) (luma' cb' cr' : List ℕ) → Type 0
 DecodesPicture file luma cb cr r luma' cb' cr' =
     LeavesPlanes (chain (decode_picture_tests file luma cb cr)) (layout_in file) (long_at file) file (decoded_plane file) luma cb cr r luma' cb' cr'

@@ -13,16 +13,17 @@ ghost use Rattle.macroblock_chroma.specs.Code.{coded_step_chroma};
 ghost use Rattle.plane.specs.Code.{plane_from};
 ghost use Rattle.frame.specs.Code.{frame_area, records_from, frame_from, both_from};
 
+use crate::Offsets;
 use picture::Layout;
 use quantizer::Quantizer;
 
-// Macroblock m into its two records at the front of what is lent; answers how many bytes that were.
+// Macroblock m into its two records at the front of what is lent; answers how many bytes that were. Luma's planes go one way here and both of chroma
+// another, each to a function that takes slices: a struct of three planes, here and in `code_frame`, would be taken apart again in these two calls.
 fn code_records(
     layout: Layout,
     m: usize,
     quantizer: Quantizer,
-    cb_offset: i32,
-    cr_offset: i32,
+    offsets: Offsets,
     luma: &[u8],
     cb: &[u8],
     cr: &[u8],
@@ -31,25 +32,24 @@ fn code_records(
     cb_out: &mut [u8],
     cr_out: &mut [u8],
 ) -> usize
-    requires among { (Among layout m 0) × (quantizer.qp ≤ highest) × (inside (minus 12) (pos 12) cb_offset ≡ true) × (inside (minus 12) (pos 12) cr_offset ≡ true) }
+    requires among { (Among layout m 0) × (quantizer.qp ≤ highest) × (inside (minus 12) (pos 12) offsets.cb ≡ true) × (inside (minus 12) (pos 12) offsets.cr ≡ true) }
     requires luma_len { (length luma.now ≡ plane_length 16 layout) × (length cb.now ≡ plane_length 8 layout) × (length cr.now ≡ plane_length 8 layout) }
     requires in_chroma_in_bounds { (length_of in_fours + length_of in_chroma ≤ length file.old) × (length luma_out.old ≡ plane_length 16 layout) × (length cb_out.old ≡ plane_length 8 layout) × (length cr_out.old ≡ plane_length 8 layout) }
-    ensures value { result ≡ length (records_from layout quantizer.qp cb_offset cr_offset luma.now (pair cb.now cr.now) m luma_out.old (pair cb_out.old cr_out.old)) }
-    ensures file_after { file.new ≡ over (records_from layout quantizer.qp cb_offset cr_offset luma.now (pair cb.now cr.now) m luma_out.old (pair cb_out.old cr_out.old)) file.old }
+    ensures value { result ≡ length (records_from layout quantizer.qp offsets.cb offsets.cr luma.now (pair cb.now cr.now) m luma_out.old (pair cb_out.old cr_out.old)) }
+    ensures file_after { file.new ≡ over (records_from layout quantizer.qp offsets.cb offsets.cr luma.now (pair cb.now cr.now) m luma_out.old (pair cb_out.old cr_out.old)) file.old }
     ensures luma_out_after { luma_out.new ≡ coded_step layout quantizer.qp luma.now m luma_out.old }
-    ensures cr_out_after { pair cb_out.new cr_out.new ≡ coded_step_chroma layout quantizer.qp cb_offset cr_offset (pair cb.now cr.now) m (pair cb_out.old cr_out.old) }
+    ensures cr_out_after { pair cb_out.new cr_out.new ≡ coded_step_chroma layout quantizer.qp offsets.cb offsets.cr (pair cb.now cr.now) m (pair cb_out.old cr_out.old) }
 {
-    let end = file.len();
     let used = macroblock::inner::code_macroblock(layout, m, quantizer, luma, file, luma_out);
     let more = macroblock_chroma::inner::code_chroma(
         layout,
         m,
         quantizer.number(),
-        cb_offset,
-        cr_offset,
+        offsets.cb,
+        offsets.cr,
         cb,
         cr,
-        &mut file[used..end],
+        &mut file[used..],
         cb_out,
         cr_out,
     );
@@ -60,8 +60,7 @@ fn code_records(
 pub(crate) fn code_frame(
     layout: Layout,
     quantizer: Quantizer,
-    cb_offset: i32,
-    cr_offset: i32,
+    offsets: Offsets,
     luma: &[u8],
     cb: &[u8],
     cr: &[u8],
@@ -70,13 +69,13 @@ pub(crate) fn code_frame(
     cb_out: &mut [u8],
     cr_out: &mut [u8],
 ) -> usize
-    requires sound { (Sound layout) × (layout.rows ≤ layout.height) × (quantizer.qp ≤ highest) × (inside (minus 12) (pos 12) cb_offset ≡ true) × (inside (minus 12) (pos 12) cr_offset ≡ true) }
+    requires sound { (Sound layout) × (layout.rows ≤ layout.height) × (quantizer.qp ≤ highest) × (inside (minus 12) (pos 12) offsets.cb ≡ true) × (inside (minus 12) (pos 12) offsets.cr ≡ true) }
     requires luma_len { (length luma.now ≡ plane_length 16 layout) × (length cb.now ≡ plane_length 8 layout) × (length cr.now ≡ plane_length 8 layout) }
     requires layout_in_bounds { (frame_area layout ≤ length file.old) × (length luma_out.old ≡ plane_length 16 layout) × (length cb_out.old ≡ plane_length 8 layout) × (length cr_out.old ≡ plane_length 8 layout) }
-    ensures value { result ≡ length (frame_from layout quantizer.qp cb_offset cr_offset luma.now (pair cb.now cr.now) luma_out.old (pair cb_out.old cr_out.old)) }
-    ensures file_after { file.new ≡ over (frame_from layout quantizer.qp cb_offset cr_offset luma.now (pair cb.now cr.now) luma_out.old (pair cb_out.old cr_out.old)) file.old }
+    ensures value { result ≡ length (frame_from layout quantizer.qp offsets.cb offsets.cr luma.now (pair cb.now cr.now) luma_out.old (pair cb_out.old cr_out.old)) }
+    ensures file_after { file.new ≡ over (frame_from layout quantizer.qp offsets.cb offsets.cr luma.now (pair cb.now cr.now) luma_out.old (pair cb_out.old cr_out.old)) file.old }
     ensures luma_out_after { luma_out.new ≡ plane_from layout quantizer.qp luma.now luma_out.old }
-    ensures cr_out_after { pair cb_out.new cr_out.new ≡ both_from layout quantizer.qp cb_offset cr_offset (pair cb.now cr.now) (pair cb_out.old cr_out.old) }
+    ensures cr_out_after { pair cb_out.new cr_out.new ≡ both_from layout quantizer.qp offsets.cb offsets.cr (pair cb.now cr.now) (pair cb_out.old cr_out.old) }
 {
     let mut place = head::inner::write_head(
         layout.width as u16,
@@ -86,22 +85,20 @@ pub(crate) fn code_frame(
     );
     let count = layout.width * layout.height;
     for m in 0usize..count {
-        let end = file.len();
         let used = code_records(
             layout,
             m,
             quantizer,
-            cb_offset,
-            cr_offset,
+            offsets,
             luma,
             cb,
             cr,
-            &mut file[place..end],
+            &mut file[place..],
             luma_out,
             cb_out,
             cr_out,
         );
-        place = place + used;
+        place += used;
     }
     place
 }

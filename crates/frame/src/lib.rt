@@ -8,22 +8,33 @@ ghost use Rattle.plane.specs.Decode.{decoded, luma_in};
 ghost use Rattle.frame.specs.Code.{CodesPicture};
 ghost use Rattle.frame.specs.Decode.{DecodesPicture, LeavesPlanes, picture_tests};
 
-use head::Head;
 use picture::Layout;
-use plane::CodedPlane;
-use quantizer::Built;
-use refusal::{Answer, Refusal};
+use refusal::Refusal;
 
 mod code;
 mod rebuild;
 mod tests;
 
-// The answer where a picture is decoded: whether its file is mono or colour.
+// How far the QPs of Cb and of Cr stand off luma's.
+#[derive(Clone, Copy)]
+pub(crate) struct Offsets {
+    pub(crate) cb: i32,
+    pub(crate) cr: i32,
+}
+
+// How long three planes are.
+#[derive(Clone, Copy)]
+pub(crate) struct Lengths {
+    pub(crate) luma: usize,
+    pub(crate) cb: usize,
+    pub(crate) cr: usize,
+}
+
+// What a decoded file is: mono or colour.
 #[derive(Clone, Copy)]
 pub enum Decoded {
     Mono,
     Colour,
-    Refused(Refusal),
 }
 
 // The planes of a file whose head tells of this picture and ends at a place: nothing is written before the last test.
@@ -34,41 +45,46 @@ fn decode_planes(
     luma: &mut [u8],
     cb: &mut [u8],
     cr: &mut [u8],
-) -> Decoded
+) -> Result<Decoded, Refusal>
     requires { Sound layout }
     ensures { LeavesPlanes (chain (picture_tests layout place file.now luma.old cb.old cr.old)) layout place file.now (decoded layout (luma_in file.now place)) luma.old cb.old cr.old result luma.new cb.new cr.new }
 {
-    match tests::picture_tested(layout, place, file, luma.len(), cb.len(), cr.len()) {
-        Answer::Refused(refusal) => Decoded::Refused(refusal),
-        Answer::Done => {
-            rebuild::luma_plane(layout, place, file, luma);
-            if record::inner::colour_from(file, place) {
-                rebuild::both_planes(layout, place, file, cb, cr);
-                return Decoded::Colour;
-            }
-            Decoded::Mono
-        }
+    let planes = Lengths {
+        luma: luma.len(),
+        cb: cb.len(),
+        cr: cr.len(),
+    };
+    tests::picture_tested(layout, place, file, planes)?;
+    rebuild::luma_plane(layout, place, file, luma);
+    if record::inner::colour_from(file, place) {
+        rebuild::both_planes(layout, place, file, cb, cr);
+        return Ok(Decoded::Colour);
     }
+    Ok(Decoded::Mono)
 }
 
-// The planes of a record file: luma, and of a colour file Cb and Cr.
-pub fn decode_picture(file: &[u8], luma: &mut [u8], cb: &mut [u8], cr: &mut [u8]) -> Decoded
+// The planes of a record file: luma, and of a colour file Cb and Cr. `DecodesPicture`, the export for C and the theorems over its reading name these
+// parameters.
+pub fn decode_picture(
+    file: &[u8],
+    luma: &mut [u8],
+    cb: &mut [u8],
+    cr: &mut [u8],
+) -> Result<Decoded, Refusal>
     ensures { DecodesPicture file.now luma.old cb.old cr.old result luma.new cb.new cr.new }
 {
-    match head::read_head(file) {
-        Head::Refused(refusal) => Decoded::Refused(refusal),
-        Head::Legal(width, height, rows, long) => {
-            let layout = Layout {
-                width: width,
-                height: height,
-                rows: rows,
-            };
-            decode_planes(layout, long, file, luma, cb, cr)
-        }
-    }
+    let head = head::read_head(file)?;
+    let layout = Layout {
+        width: head.width,
+        height: head.height,
+        rows: head.rows,
+    };
+    decode_planes(layout, head.long, file, luma, cb, cr)
 }
 
-// The record file of a picture in slices of so many rows, and the planes that a decoder rebuilds from it.
+// The record file of a picture in slices of so many rows, and the planes that a decoder rebuilds from it; answers how many bytes of the file area
+// were used. `CodesPicture`, the export for C and the theorems over its reading name these parameters; below it the offsets and the lengths go on as
+// one value each.
 pub fn code_picture(
     width: usize,
     height: usize,
@@ -83,42 +99,39 @@ pub fn code_picture(
     luma_out: &mut [u8],
     cb_out: &mut [u8],
     cr_out: &mut [u8],
-) -> CodedPlane
+) -> Result<usize, Refusal>
     ensures { CodesPicture width height rows qp cb_offset cr_offset luma.now cb.now cr.now file.old luma_out.old cb_out.old cr_out.old result file.new luma_out.new cb_out.new cr_out.new }
 {
     if !head::inner::size_holds(width, height) {
-        return CodedPlane::Refused(Refusal::Size);
+        return Err(Refusal::Size);
     }
     if !head::inner::rows_hold(height, rows) {
-        return CodedPlane::Refused(Refusal::Size);
+        return Err(Refusal::Size);
     }
     let layout = Layout {
-        width: width,
-        height: height,
-        rows: rows,
+        width,
+        height,
+        rows,
     };
-    match tests::frame_accepted(
-        layout,
-        qp,
-        cb_offset,
-        cr_offset,
-        luma.len(),
-        cb.len(),
-        cr.len(),
-        file.len(),
-        luma_out.len(),
-        cb_out.len(),
-        cr_out.len(),
-    ) {
-        Built::Refused(refusal) => CodedPlane::Refused(refusal),
-        Built::Legal(quantizer) => {
-            plane::inner::clear(luma_out);
-            plane::inner::clear(cb_out);
-            plane::inner::clear(cr_out);
-            CodedPlane::Bytes(code::code_frame(
-                layout, quantizer, cb_offset, cr_offset, luma, cb, cr, file, luma_out, cb_out,
-                cr_out,
-            ))
-        }
-    }
+    let offsets = Offsets {
+        cb: cb_offset,
+        cr: cr_offset,
+    };
+    let planes = Lengths {
+        luma: luma.len(),
+        cb: cb.len(),
+        cr: cr.len(),
+    };
+    let rebuilt = Lengths {
+        luma: luma_out.len(),
+        cb: cb_out.len(),
+        cr: cr_out.len(),
+    };
+    let quantizer = tests::frame_accepted(layout, qp, offsets, planes, file.len(), rebuilt)?;
+    plane::inner::clear(luma_out);
+    plane::inner::clear(cb_out);
+    plane::inner::clear(cr_out);
+    Ok(code::code_frame(
+        layout, quantizer, offsets, luma, cb, cr, file, luma_out, cb_out, cr_out,
+    ))
 }

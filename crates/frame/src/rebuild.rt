@@ -1,4 +1,5 @@
-// The planes of chroma macroblock after macroblock, of a colour file whose tests have passed.
+// The planes of chroma macroblock after macroblock, of a colour file whose tests have passed. Cb's plane and Cr's stay apart, as `rebuild_chroma` takes them
+// (`rebuild_chroma_unique`).
 ghost use Rattle.std.specs.Prelude.{◌≡◌, true, length};
 ghost use Rattle.lists.specs.Chain.{chain, pass};
 ghost use Rattle.record.specs.Records.{colour_at, qp_in};
@@ -27,9 +28,8 @@ fn rebuild_at(
     ensures cr_after { cr.new ≡ cr_step layout m (qp_in (luma_in file.now start m)) (chroma_in file.now start m) cr.old }
 {
     let behind = plane::inner::behind_luma(layout, start, file, place, m);
-    let at = behind.place;
-    let end = behind.end;
-    macroblock_chroma::inner::rebuild_chroma(layout, m, behind.qp, &file[at..end], cb, cr);
+    let part = &file[behind.place..behind.end];
+    macroblock_chroma::inner::rebuild_chroma(layout, m, behind.qp, part, cb, cr);
 }
 
 // All macroblocks of both planes.

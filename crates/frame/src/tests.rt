@@ -9,26 +9,28 @@ ghost use Rattle.plane.specs.Decode.{records_tests};
 ghost use Rattle.frame.specs.Code.{frame_area, quantizers_tests, frame_tests};
 ghost use Rattle.frame.specs.Decode.{planes_tests};
 
+use crate::{Lengths, Offsets};
 use picture::Layout;
-use quantizer::{Built, Quantizer};
-use refusal::{Answer, Refusal};
+use quantizer::Quantizer;
+use refusal::Refusal;
 
 // The lengths of three planes.
-pub(crate) fn planes_fit(layout: Layout, luma: usize, cb: usize, cr: usize) -> Answer
+// Lengths and no slices: planes that are to be written are lent to the caller alone (docs/DECISIONS.md, 95).
+pub(crate) fn planes_fit(layout: Layout, planes: Lengths) -> Result<(), Refusal>
     requires { Sound layout }
-    ensures { said result ≡ chain (planes_tests layout luma cb cr) }
+    ensures { said result ≡ chain (planes_tests layout planes.luma planes.cb planes.cr) }
 {
     let count = layout.width * layout.height;
-    if luma != 256 * count {
-        return Answer::Refused(Refusal::Length);
+    if planes.luma != 256 * count {
+        return Err(Refusal::Length);
     }
-    if cb != 64 * count {
-        return Answer::Refused(Refusal::Length);
+    if planes.cb != 64 * count {
+        return Err(Refusal::Length);
     }
-    if cr != 64 * count {
-        return Answer::Refused(Refusal::Length);
+    if planes.cr != 64 * count {
+        return Err(Refusal::Length);
     }
-    Answer::Done
+    Ok(())
 }
 
 // The lengths of three planes, and then the records of a file from a place on.
@@ -36,73 +38,56 @@ pub(crate) fn picture_tested(
     layout: Layout,
     place: usize,
     file: &[u8],
-    luma: usize,
-    cb: usize,
-    cr: usize,
-) -> Answer
+    planes: Lengths,
+) -> Result<(), Refusal>
     requires { Sound layout }
-    ensures { said result ≡ chain (planes_tests layout luma cb cr ++ records_tests layout place file.now) }
+    ensures { said result ≡ chain (planes_tests layout planes.luma planes.cb planes.cr ++ records_tests layout place file.now) }
 {
-    match planes_fit(layout, luma, cb, cr) {
-        Answer::Refused(refusal) => Answer::Refused(refusal),
-        Answer::Done => plane::inner::test_file(layout, place, file),
-    }
+    planes_fit(layout, planes)?;
+    plane::inner::test_file(layout, place, file)
 }
 
 // The lengths of the file area and of the planes that are to be rebuilt.
-fn areas_fit(layout: Layout, file: usize, luma: usize, cb: usize, cr: usize) -> Answer
+fn areas_fit(layout: Layout, file: usize, rebuilt: Lengths) -> Result<(), Refusal>
     requires { Sound layout }
-    ensures { said result ≡ chain (length_test (frame_area layout) file ∷ planes_tests layout luma cb cr) }
+    ensures { said result ≡ chain (length_test (frame_area layout) file ∷ planes_tests layout rebuilt.luma rebuilt.cb rebuilt.cr) }
 {
     let count = layout.width * layout.height;
     let head = head::inner::length_for(layout.height, layout.rows);
     let each = record::inner::fours_length() + record::inner::chroma_length();
     if file != head + each * count {
-        return Answer::Refused(Refusal::Length);
+        return Err(Refusal::Length);
     }
-    planes_fit(layout, luma, cb, cr)
+    planes_fit(layout, rebuilt)
 }
 
 // The QP, and then both offsets.
-fn quantizers_legal(qp: u8, cb: i32, cr: i32) -> Built
-    ensures { Accepts (quantizers_tests qp cb cr) qp result }
+fn quantizers_legal(qp: u8, offsets: Offsets) -> Result<Quantizer, Refusal>
+    ensures { Accepts (quantizers_tests qp offsets.cb offsets.cr) qp result }
 {
-    match Quantizer::new(qp) {
-        Built::Refused(refusal) => Built::Refused(refusal),
-        Built::Legal(quantizer) => {
-            if !whole::inner::inside(cb, -12, 12) {
-                return Built::Refused(Refusal::Quantizer(0));
-            }
-            if !whole::inner::inside(cr, -12, 12) {
-                return Built::Refused(Refusal::Quantizer(0));
-            }
-            Built::Legal(quantizer)
-        }
+    let quantizer = Quantizer::new(qp)?;
+    if !whole::inner::inside(offsets.cb, -12, 12) {
+        return Err(Refusal::Quantizer(0));
     }
+    if !whole::inner::inside(offsets.cr, -12, 12) {
+        return Err(Refusal::Quantizer(0));
+    }
+    Ok(quantizer)
 }
 
 // All that is lent to the coder of a picture, and then the quantizers.
 pub(crate) fn frame_accepted(
     layout: Layout,
     qp: u8,
-    cb_offset: i32,
-    cr_offset: i32,
-    luma: usize,
-    cb: usize,
-    cr: usize,
+    offsets: Offsets,
+    planes: Lengths,
     file: usize,
-    luma_out: usize,
-    cb_out: usize,
-    cr_out: usize,
-) -> Built
+    rebuilt: Lengths,
+) -> Result<Quantizer, Refusal>
     requires { Sound layout }
-    ensures { Accepts (frame_tests layout qp cb_offset cr_offset luma cb cr file luma_out cb_out cr_out) qp result }
+    ensures { Accepts (frame_tests layout qp offsets.cb offsets.cr planes.luma planes.cb planes.cr file rebuilt.luma rebuilt.cb rebuilt.cr) qp result }
 {
-    match planes_fit(layout, luma, cb, cr) {
-        Answer::Refused(refusal) => Built::Refused(refusal),
-        Answer::Done => match areas_fit(layout, file, luma_out, cb_out, cr_out) {
-            Answer::Refused(refusal) => Built::Refused(refusal),
-            Answer::Done => quantizers_legal(qp, cb_offset, cr_offset),
-        },
-    }
+    planes_fit(layout, planes)?;
+    areas_fit(layout, file, rebuilt)?;
+    quantizers_legal(qp, offsets)
 }

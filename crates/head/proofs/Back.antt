@@ -22,8 +22,9 @@ use Rattle.octets.proofs.Back.{sum_own}
 use Rattle.head.specs.Entry.{size_holds, rows_hold, long_at, width_at, height_at, rows_at, head_tests, ReadsHead}
 use Rattle.head.specs.Heads.{old_mark, old_length, old_head, new_mark, new_length, new_head, head_of, head_length, length_by}
 use Rattle.head.specs.declared.Head.{Head}
-use Rattle.head.specs.declared.Head.TheVariants.{Legal}
 use Rattle.head.proofs.Heads.{tests_legal, same_head}
+use Rattle.std.specs.Prelude.{Ok, Result}
+use Rattle.refusal.specs.declared.Refusal.{Refusal}
 
 module _ (width height rows : ℕ) where
   -- the old head or the new one
@@ -117,10 +118,10 @@ module _ (width height rows : ℕ) where
           (omega (arith, long, length_head, long_back)) sums_back (rw (width_back, height_back) size) (rw (height_back, rows_back) sliced)
 
       -- what `read_head` answers, whatever its contract allows
-      pub head_back : (h : Head) → ReadsHead (head_of width height rows ++ rest) h → h ≡ Legal width height rows (head_length height rows)
+      pub head_back : (h : Result Head Refusal) → ReadsHead (head_of width height rows ++ rest) h → h ≡ Ok (record { width = width; height = height; rows = rows; long = head_length height rows })
       head_back h p =
           let e = head_own in
-          same_head h (Legal width height rows (head_length height rows)) (says_same p.says ∙ e)
+          same_head h (Ok (record { width = width; height = height; rows = rows; long = head_length height rows })) (says_same p.says ∙ e)
           (holds_new 0 e p.width ∙ width_back)
           (holds_new 0 e p.height ∙ height_back)
           (holds_new 0 e p.rows ∙ rows_back)

@@ -1,4 +1,5 @@
 -- What the tests of a head come to.
+--     told_some, told_none                                         what an answer tells of a length
 --     length_unknown, length_some                                  a mark is a head's exactly if a head with it has a length
 --     tests_cut, tests_mark, tests_short, tests_sum, tests_size, tests_rows, tests_legal     the seven verdicts
 --     same_head                                                    an answer is known by what it says and what comes back with it
@@ -12,6 +13,7 @@ use Prim.Native.Nat.{ℕ, ◌<◌, ◌≤◌}
 use native.Mathlib.Omega.{arith}
 use borrow.Author.Tests.{le-leb, lt-leb, leb-true}
 use lib.Dec.{eqb, leb}
+use Rattle.std.proofs.lemmas.Bool.{eqb-true, eqb-false}
 use lib.ListN.{length, take}
 use Rattle.lists.specs.Chain.{pass, stop, chain}
 use Rattle.lists.proofs.Chain.{chain_exactly_if, holds_new}
@@ -22,10 +24,12 @@ use Rattle.refusal.specs.declared.Refusal.TheVariants as refusal
 use Rattle.refusal.specs.Faults.{refusal_of}
 use Rattle.octets.specs.Numbers.{number_at}
 use Rattle.octets.specs.Sum.{sum_holds}
-use Rattle.head.specs.Entry.{dimension, size_holds, rows_hold, long_at, width_at, height_at, rows_at, head_tests, said_head, width_of, height_of, rows_of, long_of, ReadsHead}
-use Rattle.head.specs.Heads.{old_mark, old_length, new_mark, new_length, is_head, length_by}
-use Rattle.head.specs.declared.Head.TheVariants.{Legal, Refused}
+use Rattle.head.specs.Entry.{dimension, size_holds, rows_hold, long_at, width_at, height_at, rows_at, head_tests, width_of, height_of, rows_of, long_of, ReadsHead}
+use Rattle.head.specs.Heads.{old_mark, old_length, new_mark, new_length, is_head, length_by, some_unless_0}
 use Rattle.head.specs.declared.Head.{Head}
+use Rattle.std.specs.Prelude.{Err, Ok, Result, Option, Some, None}
+use Rattle.refusal.specs.Number.{said}
+use Rattle.refusal.specs.declared.Refusal.{Refusal}
 
 -- ---- marks
 
@@ -48,6 +52,28 @@ module _ (mark : ℕ) where
   pub length_some : 1 ≤ length_by mark → (is_head mark ≡ true) × (old_length ≤ length_by mark)
   unfolding length_by
   length_some h = some_marks (eqb mark old_mark) (eqb mark new_mark) h
+
+-- what an answer tells of a length
+module _ (n : ℕ) where
+  none_or_some : {long : ℕ} → ◌≡◌ {A = Option ℕ} None (Some long) → ⊥
+  none_or_some e = let z : ◌≡◌ {A = ℕ} 0 1 = cc in omega arith
+
+  pub told_some : {long : ℕ} → some_unless_0 n ≡ Some long → (long ≡ n) × (1 ≤ long)
+  told_some {long} h = by (eqb n 0) refl h
+    where
+      by : (t : Bool) → eqb n 0 ≡ t → cond t None (Some n) ≡ Some long → (long ≡ n) × (1 ≤ long)
+      by true q e = absurd (none_or_some e)
+      by false q e =
+          let p : n ≡ long = cc in
+          let apart : n ≡ 0 → ⊥ = eqb-false n 0 q in
+          (sym p, rw (sym p) (omega (arith, apart)))
+
+  pub told_none : some_unless_0 n ≡ None → n < 1
+  told_none h = by (eqb n 0) refl h
+    where
+      by : (t : Bool) → eqb n 0 ≡ t → cond t None (Some n) ≡ None → n < 1
+      by true q e = let z = eqb-true n 0 q in omega (arith, z)
+      by false q e = absurd (none_or_some (sym e))
 
 -- ---- the verdicts
 
@@ -114,13 +140,13 @@ pub record Told (file : List ℕ) (width height rows long : ℕ) : Type 0 where
   pub some_rows : 0 < rows
   pub most_rows : rows ≤ height
 
-pub head_told : (file : List ℕ) {h : Head} {width height rows long : ℕ} → ReadsHead file h → h ≡ Legal width height rows long → Told file width height rows long
-head_told file {h} {width} {height} {rows} {long} p e =
-    let v : chain (head_tests file) ≡ pass = sym (says_same p.says) ∙ ap said_head e in
+pub head_told : (file : List ℕ) {h : Result Head Refusal} {it : Head} → ReadsHead file h → h ≡ Ok it → Told file it.width it.height it.rows it.long
+head_told file {h} {it} p e =
+    let v : chain (head_tests file) ≡ pass = sym (says_same p.says) ∙ ap said e in
     let a = (chain_exactly_if (head_tests file)).passes.0 v in
-    let w : width ≡ width_at file = sym (ap width_of e) ∙ holds_new 0 v p.width in
-    let k : height ≡ height_at file = sym (ap height_of e) ∙ holds_new 0 v p.height in
-    let s : rows ≡ rows_at file = sym (ap rows_of e) ∙ holds_new 0 v p.rows in
+    let w : it.width ≡ width_at file = sym (ap width_of e) ∙ holds_new 0 v p.width in
+    let k : it.height ≡ height_at file = sym (ap height_of e) ∙ holds_new 0 v p.height in
+    let s : it.rows ≡ rows_at file = sym (ap rows_of e) ∙ holds_new 0 v p.rows in
     let n = rows_of_law (height_at file) (rows_at file) a.1.1.1.1.1.0 in
     record {
       passed = v;
@@ -133,8 +159,8 @@ head_told file {h} {width} {height} {rows} {long} p e =
       most_rows = rw (s, k) n.1;
     }
 
-pub same_head : (x y : Head) → said_head x ≡ said_head y → width_of x ≡ width_of y → height_of x ≡ height_of y → rows_of x ≡ rows_of y → long_of x ≡ long_of y → x ≡ y
-same_head (Legal w h r l) (Legal v k s m) e f g i j = cc
-same_head (Legal w h r l) (Refused s) e f g i j = cc
-same_head (Refused r) (Legal v k s m) e f g i j = cc
-same_head (Refused r) (Refused s) e f g i j = let q : r ≡ s = cc in ap Refused q
+pub same_head : (x y : Result Head Refusal) → said x ≡ said y → width_of x ≡ width_of y → height_of x ≡ height_of y → rows_of x ≡ rows_of y → long_of x ≡ long_of y → x ≡ y
+same_head (Ok x) (Ok y) e f g i j = λ t. Ok (record { width = f t; height = g t; rows = i t; long = j t })
+same_head (Ok x) (Err s) e f g i j = cc
+same_head (Err r) (Ok y) e f g i j = cc
+same_head (Err r) (Err s) e f g i j = let q : r ≡ s = cc in ap Err q

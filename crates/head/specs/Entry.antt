@@ -2,17 +2,17 @@
 -- (short ..: 9, place 0), SIZE" (01, "What is sent back, and in which order it is tested"); "n of 0 or above the height is SIZE" (02, request 02).
 -- Assumes nothing.
 use Rattle.std.specs.Prelude.{◌≡◌, Bool, cond, ◌&&◌, List, [], ◌∷◌, ℕ, eqb, leb, length, take}
-use Rattle.lists.specs.Chain.{Test, test, Verdict, pass, stop, chain, written}
+use Rattle.lists.specs.Chain.{Test, test, chain, written}
 use Rattle.refusal.specs.Faults.{refusal_of}
-use Rattle.refusal.specs.Number.{Says}
+use Rattle.refusal.specs.Number.{said, Says}
 use Rattle.refusal.specs.declared.Fault.TheVariants.{Mark, Sum}
 use Rattle.refusal.specs.declared.Refusal.TheVariants as refusal
 use Rattle.refusal.specs.declared.Refusal.{Refusal}
 use Rattle.octets.specs.Numbers.{number_at}
 use Rattle.octets.specs.Sum.{sum_holds}
 use Rattle.head.specs.Heads.{new_mark, is_head, length_by}
-use Rattle.head.specs.declared.Head.TheVariants.{Legal, Refused}
 use Rattle.head.specs.declared.Head.{Head}
+use Rattle.std.specs.Prelude.{Err, Ok, Result}
 
 -- "Width and height are 1 to 128 macroblocks"
 abbrev pub dimension : ℕ → Bool
@@ -49,30 +49,26 @@ head_tests file =
     ∷ test (size_holds (width_at file) (height_at file)) refusal.Size
     ∷ test (rows_hold (height_at file) (rows_at file)) refusal.Size ∷ []
 
--- what an answer says, and what comes back with it (0 where refused): width, height, the rows of a slice, the head's own length
-abbrev pub said_head : Head → Verdict Refusal
-said_head (Legal width height rows long) = pass
-said_head (Refused r) = stop r
+-- what comes back (0 where refused): width, height, the rows of a slice, the head's own length
+abbrev pub width_of : Result Head Refusal → ℕ
+width_of (Ok h) = h.width
+width_of (Err r) = 0
 
-abbrev pub width_of : Head → ℕ
-width_of (Legal width height rows long) = width
-width_of (Refused r) = 0
+abbrev pub height_of : Result Head Refusal → ℕ
+height_of (Ok h) = h.height
+height_of (Err r) = 0
 
-abbrev pub height_of : Head → ℕ
-height_of (Legal width height rows long) = height
-height_of (Refused r) = 0
+abbrev pub rows_of : Result Head Refusal → ℕ
+rows_of (Ok h) = h.rows
+rows_of (Err r) = 0
 
-abbrev pub rows_of : Head → ℕ
-rows_of (Legal width height rows long) = rows
-rows_of (Refused r) = 0
-
-abbrev pub long_of : Head → ℕ
-long_of (Legal width height rows long) = long
-long_of (Refused r) = 0
+abbrev pub long_of : Result Head Refusal → ℕ
+long_of (Ok h) = h.long
+long_of (Err r) = 0
 
 -- the size of the picture, the rows of a slice and where the records begin, or the refusal
-pub record ReadsHead (file : List ℕ) (h : Head) : Type 0 where
-  pub says : Says (said_head h) (chain (head_tests file))
+pub record ReadsHead (file : List ℕ) (h : Result Head Refusal) : Type 0 where
+  pub says : Says (said h) (chain (head_tests file))
   pub width : width_of h ≡ written (chain (head_tests file)) (width_at file) 0
   pub height : height_of h ≡ written (chain (head_tests file)) (height_at file) 0
   pub rows : rows_of h ≡ written (chain (head_tests file)) (rows_at file) 0

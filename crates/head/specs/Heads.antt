@@ -1,5 +1,5 @@
 -- The head of the file (01, "Plane and record file"; 02, request 02). Assumes nothing.
-use Rattle.std.specs.Prelude.{Bool, cond, ◌||◌, List, ◌++◌, ℕ, ◌+◌, ◌*◌, eqb}
+use Rattle.std.specs.Prelude.{Bool, cond, ◌||◌, List, [], ◌∷◌, ◌++◌, ℕ, ◌+◌, ◌*◌, eqb, Option, Some, None}
 use Rattle.octets.specs.Numbers.{bytes_of}
 use Rattle.octets.specs.Sum.{summed}
 
@@ -12,6 +12,11 @@ old_length = 8
 
 unfoldable pub old_head : (width height : ℕ) → List ℕ
 old_head width height = summed (bytes_of old_mark ++ bytes_of width ++ bytes_of height)
+
+-- numbers, each as two bytes
+unfoldable pub words : List ℕ → List ℕ
+words [] = []
+words (n ∷ ns) = bytes_of n ++ words ns
 
 -- "A new head, 10 bytes, mark 48 53, carries n before the sum" (02, request 02)
 abbrev pub new_mark : ℕ
@@ -38,3 +43,7 @@ is_head mark = eqb mark old_mark || eqb mark new_mark
 -- how long a head is, by its mark; 0 where no head has such a mark
 unfoldable pub length_by : ℕ → ℕ
 length_by mark = cond (eqb mark old_mark) old_length (cond (eqb mark new_mark) new_length 0)
+
+-- a length that is there unless it is 0: None for 0
+abbrev pub some_unless_0 : ℕ → Option ℕ
+some_unless_0 n = cond (eqb n 0) None (Some n)

@@ -8,38 +8,44 @@ use refusal::{Fault, Refusal};
 
 pub mod inner;
 
-// The answer where a head is read: width and height in macroblocks, the rows of a slice, and the head's own length.
+// What a head says: width and height in macroblocks, the rows of a slice, and how long the head itself is.
 #[derive(Clone, Copy)]
-pub enum Head {
-    Legal(usize, usize, usize, usize),
-    Refused(Refusal),
+pub struct Head {
+    pub width: usize,
+    pub height: usize,
+    pub rows: usize,
+    pub long: usize,
 }
 
 // The size of the picture whose file this is, the rows of a slice and where the records begin, or the refusal.
-pub fn read_head(file: &[u8]) -> Head
+pub fn read_head(file: &[u8]) -> Result<Head, Refusal>
     ensures { ReadsHead file.now result }
 {
     if file.len() < 2 {
-        return Head::Refused(Refusal::Form(0));
+        return Err(Refusal::Form(0));
     }
-    let long = inner::length_by(octets::inner::number_at(file, 0));
-    if long < 1 {
-        return Head::Refused(refusal::inner::of_fault(Fault::Mark, 0, long, file.len()));
-    }
+    let Some(long) = inner::length_by(octets::inner::number_at(file, 0)) else {
+        return Err(refusal::inner::of_fault(Fault::Mark, 0, 0, file.len()));
+    };
     if file.len() < long {
-        return Head::Refused(Refusal::Form(0));
+        return Err(Refusal::Form(0));
     }
     if !octets::inner::sum_holds(&file[..long]) {
-        return Head::Refused(refusal::inner::of_fault(Fault::Sum, 0, long, file.len()));
+        return Err(refusal::inner::of_fault(Fault::Sum, 0, long, file.len()));
     }
-    let width = octets::inner::number_at(file, 2) as usize;
-    let height = octets::inner::number_at(file, 4) as usize;
+    let width = usize::from(octets::inner::number_at(file, 2));
+    let height = usize::from(octets::inner::number_at(file, 4));
     let rows = inner::rows_at(file);
     if !inner::size_holds(width, height) {
-        return Head::Refused(Refusal::Size);
+        return Err(Refusal::Size);
     }
     if !inner::rows_hold(height, rows) {
-        return Head::Refused(Refusal::Size);
+        return Err(Refusal::Size);
     }
-    Head::Legal(width, height, rows, long)
+    Ok(Head {
+        width,
+        height,
+        rows,
+        long,
+    })
 }

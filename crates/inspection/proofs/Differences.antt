@@ -11,7 +11,7 @@ use mathlib.Core.Bool.{Bool, true, false, not}
 use mathlib.Core.List.{List, [], ◌∷◌}
 use Prim.Native.Nat.{ℕ, ◌+◌, ◌*◌, ◌-◌, ◌/◌, ◌%◌, ◌<◌, ◌≤◌}
 use native.Mathlib.Omega.{arith}
-use borrow.Author.Tests.{eqb-true, eq-eqb, ne_eqb, ltb-true, ltb-false}
+use borrow.Author.Tests.{eqb-true, eq-eqb, ltb-true, ltb-false}
 use lib.Arith.{digits_div, digits_mod}
 use lib.Dec.{eqb, ltb}
 use lib.ListN.{length, get_or}
@@ -40,9 +40,6 @@ like p q k e = by (eqb (get_or p k 0) (get_or q k 0)) refl e
 
 pub unlike_not : (p q : List ℕ) (k : ℕ) → get_or p k 0 ≡ get_or q k 0 → unlike p q k ≡ false
 unlike_not p q k e = ap not (eq-eqb (get_or p k 0) (get_or q k 0) e)
-
-pub unlike_is : (p q : List ℕ) (k : ℕ) → (get_or p k 0 ≡ get_or q k 0 → ⊥) → unlike p q k ≡ true
-unlike_is p q k n = ap not (ne_eqb (get_or p k 0) (get_or q k 0) n)
 
 module _ (l : Layout) (some : 0 < l.width) where
   -- where place i of the plane stands among the samples of its macroblock

@@ -13,13 +13,10 @@ use Rattle.lists.proofs.Chain.{chain_passed, chain_refused}
 use Rattle.lists.proofs.First.{Searching}
 use Rattle.lists.proofs.Tab.{length_tab}
 use Rattle.refusal.specs.Number.{said}
-use Rattle.refusal.specs.declared.Answer.{Answer}
-use Rattle.refusal.specs.declared.Answer.TheVariants.{Refused}
 use Rattle.refusal.specs.declared.Refusal.{Refusal}
 use Rattle.refusal.specs.declared.Refusal.TheVariants as refusal
 use Rattle.refusal.proofs.Same.{says, says_same}
 use Rattle.head.specs.declared.Head.{Head}
-use Rattle.head.specs.declared.Head.TheVariants as head_variants
 use Rattle.head.specs.Entry.{ReadsHead, head_tests, long_at}
 use Rattle.picture.specs.declared.Layout.{Layout}
 use Rattle.picture.specs.Order.{count_of}
@@ -32,6 +29,7 @@ use Rattle.plane.specs.Decode.{luma_in, records_tests, body_tests, layout_in, de
 use Rattle.plane.proofs.Entry.{LegalHead, plane_short, body_rest, head_refused}
 use Rattle.inspection.specs.Inspect.{differ_at, differs_test, inspect_body_tests, inspect_tests, Inspects}
 use Rattle.inspection.proofs.Differences.{like_before}
+use Rattle.std.specs.Prelude.{Err, Result}
 
 module _ (l : Layout) (place : ℕ) (file theirs : List ℕ) where
   pub lent_short : (length theirs ≡ plane_length 16 l → ⊥) → chain (inspect_body_tests l place file theirs) ≡ stop refusal.Length
@@ -52,10 +50,10 @@ module _ (file theirs : List ℕ) where
   pub decoder_accepts : chain (decode_tests file theirs) ≡ pass → chain (inspect_tests file theirs) ≡ chain (differs_test (layout_in file) (decoded_plane file) theirs ∷ [])
   decoder_accepts e = chain_passed (decode_tests file theirs) (differs_test (layout_in file) (decoded_plane file) theirs ∷ []) e
 
-  pub head_refuses : {h : Head} {r : Refusal} → ReadsHead file h → h ≡ head_variants.Refused r → Inspects file theirs (Refused r)
+  pub head_refuses : {h : Result Head Refusal} {r : Refusal} → ReadsHead file h → h ≡ Err r → Inspects file theirs (Err r)
   head_refuses p e = says (sym (decoder_refuses (sym (says_same (head_refused file theirs p e).says))))
 
-  pub inspects_by : {l : Layout} {long : ℕ} (r : Answer) → LegalHead file l long → said r ≡ chain (inspect_body_tests l long file theirs) → Inspects file theirs r
+  pub inspects_by : {l : Layout} {long : ℕ} (r : Result (Unit {0}) Refusal) → LegalHead file l long → said r ≡ chain (inspect_body_tests l long file theirs) → Inspects file theirs r
   inspects_by {l} {long} r h d =
       let x : said r ≡ chain (inspect_body_tests (layout_in file) (long_at file) file theirs) = coe 0 1 (i. said r ≡ chain (inspect_body_tests (h.tells i) (h.ends i) file theirs)) d in
       let together = append_assoc (head_tests file) (body_tests (layout_in file) (long_at file) file theirs) (differs_test (layout_in file) (decoded_plane file) theirs ∷ []) in

@@ -1,6 +1,10 @@
 -- The decoder never answers 17.
 --     decoder_never_differs
 -- Assumes nothing.
+use Rattle.refusal.specs.Faults.{refusal_of}
+use Rattle.refusal.specs.declared.Fault.{Fault}
+use Rattle.record.specs.Records.{length_from}
+use lib.ListN.{length}
 use mathlib.Core.Path.{◌≡◌, refl}
 use mathlib.Core.Bool.{Bool, true, false}
 use mathlib.Core.List.{List}
@@ -14,11 +18,11 @@ use Rattle.refusal.proofs.Faults.{false_not_true, all_of, all_of_law, all_behind
 use Rattle.head.specs.Entry.{head_tests, long_at}
 use Rattle.record.specs.Faults.{walk_of, walk_tests}
 use Rattle.record.specs.Records.{colour_at}
-use Rattle.record.specs.declared.Walk.{Walk}
-use Rattle.record.specs.declared.Walk.TheVariants.{Whole, Broken}
 use Rattle.picture.specs.Order.{count_of}
 use Rattle.plane.specs.Decode.{luma_number, forms_tests, contents_tests, body_tests, layout_in, decode_tests}
 use Rattle.plane.proofs.Broken.{contents_kind}
+use Rattle.std.specs.Prelude.{Err, Ok, Result}
+use Rattle.record.specs.declared.Faulty.{Faulty}
 
 -- a refusal that is not 17
 abbrev other : Refusal → Bool
@@ -51,13 +55,16 @@ content_other (refusal.Number k) e = refl
 content_other (refusal.Sum k) e = refl
 content_other (refusal.Differs k) e = e
 
-walk_other : (file : List ℕ) (w : Walk) → all_of other (walk_tests file w) ≡ true
-walk_other file (Whole place) = refl
-walk_other file (Broken CutMark place) = refl
-walk_other file (Broken Mark place) = refl
-walk_other file (Broken CutRest place) = refl
-walk_other file (Broken Number place) = refl
-walk_other file (Broken Sum place) = refl
+fault_other : (fault : Fault) (place long total : ℕ) → other (refusal_of fault place long total) ≡ true
+fault_other CutMark place long total = refl
+fault_other Mark place long total = refl
+fault_other CutRest place long total = refl
+fault_other Number place long total = refl
+fault_other Sum place long total = refl
+
+walk_other : (file : List ℕ) (w : Result ℕ Faulty) → all_of other (walk_tests file w) ≡ true
+walk_other file (Ok place) = refl
+walk_other file (Err it) = rw (fault_other it.fault it.place (length_from it.place file) (length file)) refl
 
 pub decoder_never_differs : (file plane : List ℕ) (k : ℕ) → chain (decode_tests file plane) ≡ stop (refusal.Differs k) → ⊥
 decoder_never_differs file plane k e =

@@ -11,10 +11,7 @@ use denote.Triple.Clauses.{AtExit}
 use borrow.Fn.Kinds.{Dens, res_t, ended_of}
 use lib.ListN.{take}
 use Rattle.lists.specs.Bytes.{Bytes}
-use Rattle.refusal.specs.declared.Answer.TheVariants.{Done}
 use Rattle.plane.specs.Code.{CodesPlane}
-use Rattle.plane.specs.declared.CodedPlane.{CodedPlane}
-use Rattle.plane.specs.declared.CodedPlane.TheVariants as coded
 use Rattle.plane.proofs.CodedOutcome.{outcome}
 use Rattle.plane.proofs.Trip.{coder_decoder_agree}
 use Rattle.plane.proofs.code_plane.Kinds as plane
@@ -28,6 +25,8 @@ use Rattle.inspection.specs.Inspect.{Inspects}
 use Rattle.inspection.proofs.Promised.{decoded_accepted}
 use Rattle.inspection.proofs.inspect.Kinds as inspect
 use Rattle.inspection.proofs.inspect.Reads as inspect_reads
+use Rattle.std.specs.Prelude.{Ok, Result}
+use Rattle.refusal.specs.declared.Refusal.{Refusal}
 
 module _ (κs' : Lfts 2) (a' : Dens κs' inspect.ps) (r' : (res_t inspect.r κs').Denot) (e' : AtExit (ended_of 2 inspect.ps inspect.r) κs') (p' : inspect_reads.Learnt κs' a' r' e') where
   -- of what was lent to it
@@ -51,9 +50,9 @@ module _ (κs' : Lfts 2) (a' : Dens κs' inspect.ps) (r' : (res_t inspect.r κs'
     abbrev rebuilt_left : List ℕ
     rebuilt_left = e.1.1.1.1.1.1.0.now
 
-    pub own_accepted : Bytes original → (used : ℕ) → r ≡ coded.Bytes used → a'.0.now ≡ take used file_left → a'.1.0.now ≡ rebuilt_left → r' ≡ Done
+    pub own_accepted : Bytes original → (used : ℕ) → r ≡ Ok used → a'.0.now ≡ take used file_left → a'.1.0.now ≡ rebuilt_left → r' ≡ Ok tt
     own_accepted bytes used is same_file same_plane =
-        let c = subst (λ (x : CodedPlane). CodesPlane a.0 a.1.0 a.1.1.0 a.1.1.1.0 original file rebuilt x file_left rebuilt_left) is p in
+        let c = subst (λ (x : Result ℕ Refusal). CodesPlane a.0 a.1.0 a.1.1.0 a.1.1.1.0 original file rebuilt x file_left rebuilt_left) is p in
         let o = outcome a.0 a.1.0 a.1.1.0 a.1.1.1.0 original file rebuilt used file_left rebuilt_left c in
         let d = (coder_decoder_agree a.0 a.1.0 a.1.1.0 a.1.1.1.0 original file rebuilt used file_left rebuilt_left bytes c rebuilt o.room).0 in
         decoded_accepted (take used file_left) rebuilt rebuilt_left r' d (of_these same_file same_plane)
@@ -75,7 +74,7 @@ module _ (κs' : Lfts 2) (a' : Dens κs' inspect.ps) (r' : (res_t inspect.r κs'
     abbrev luma_left : List ℕ
     luma_left = e.1.1.1.1.1.1.1.1.1.1.0.now
 
-    pub own_colour_accepted : Bytes luma → Bytes cb → Bytes cr → (used : ℕ) → r ≡ coded.Bytes used → a'.0.now ≡ take used frame_left → a'.1.0.now ≡ luma_left → r' ≡ Done
+    pub own_colour_accepted : Bytes luma → Bytes cb → Bytes cr → (used : ℕ) → r ≡ Ok used → a'.0.now ≡ take used frame_left → a'.1.0.now ≡ luma_left → r' ≡ Ok tt
     own_colour_accepted bytes cbBytes crBytes used is same_file same_plane =
         let area = a.1.1.1.1.1.1.1.1.1.0.now in
         let lumaOut = a.1.1.1.1.1.1.1.1.1.1.0.now in
@@ -85,7 +84,7 @@ module _ (κs' : Lfts 2) (a' : Dens κs' inspect.ps) (r' : (res_t inspect.r κs'
         let cr-left = e.1.1.1.1.1.1.1.1.1.1.1.1.0.now in
         let c =
         subst
-        (λ (x : CodedPlane).
+        (λ (x : Result ℕ Refusal).
         CodesPicture a.0 a.1.0 a.1.1.0 a.1.1.1.0 a.1.1.1.1.0 a.1.1.1.1.1.0 luma cb cr area lumaOut cbOut crOut x frame_left luma_left cb-left cr-left)
         is p in
         let o =

@@ -21,8 +21,6 @@ use Rattle.lists.proofs.Chains.{chain_front, chain_behind}
 use Rattle.lists.proofs.Tab.{length_tab}
 use Rattle.refusal.specs.Number.{said, place_of}
 use Rattle.refusal.specs.Tests.{length_test}
-use Rattle.refusal.specs.declared.Answer.{Answer}
-use Rattle.refusal.specs.declared.Answer.TheVariants.{Done, Refused}
 use Rattle.refusal.specs.declared.Refusal.{Refusal}
 use Rattle.refusal.specs.declared.Refusal.TheVariants.{Differs}
 use Rattle.refusal.proofs.Same.{says_same, same_answer}
@@ -43,6 +41,7 @@ use Rattle.plane.proofs.decode_plane.Kinds as decode
 use Rattle.plane.proofs.decode_plane.Reads as decode_reads
 use Rattle.inspection.proofs.inspect.Kinds as call
 use Rattle.inspection.proofs.inspect.Reads as reads
+use Rattle.std.specs.Prelude.{Err, Ok, Result}
 
 -- ---- what the decoder says of planes
 
@@ -99,18 +98,18 @@ module _ (file theirs : List ℕ) where
           record { accepted = passed; among = t.0; here = t.1; none = t.2 }
       by (inr (t, q)) = absurd q
 
-  module _ (r : Answer) (p : Inspects file theirs r) where
-    accepted_only : r ≡ Done → (chain (decode_tests file theirs) ≡ pass) × (theirs ≡ decoded_plane file)
+  module _ (r : Result (Unit {0}) Refusal) (p : Inspects file theirs r) where
+    accepted_only : r ≡ Ok tt → (chain (decode_tests file theirs) ≡ pass) × (theirs ≡ decoded_plane file)
     accepted_only is =
         let v : chain (inspect_tests file theirs) ≡ pass = sym (says_same p) ∙ ap said is in
         let d = chain_front (decode_tests file theirs) (differs_test (layout_in file) (decoded_plane file) theirs ∷ []) v in
         let t = chain_behind (decode_tests file theirs) (differs_test (layout_in file) (decoded_plane file) theirs ∷ []) v in
         (d, sym (all_like (layout_in file) (wide_enough file theirs d) (decoded_plane file) theirs (plane_length_law file theirs d) (lent_length file theirs d) (none_differs t)))
 
-    accepted_if : chain (decode_tests file theirs) ≡ pass → theirs ≡ decoded_plane file → r ≡ Done
-    accepted_if d same = same_answer r Done (says_same p ∙ none_differing d same)
+    accepted_if : chain (decode_tests file theirs) ≡ pass → theirs ≡ decoded_plane file → r ≡ Ok tt
+    accepted_if d same = same_answer r (Ok tt) (says_same p ∙ none_differing d same)
 
-    differs_only : (place : ℕ) → r ≡ Refused (Differs place) → DiffersFirst file theirs place
+    differs_only : (place : ℕ) → r ≡ Err (Differs place) → DiffersFirst file theirs place
     differs_only place is = by (chain (decode_tests file theirs)) refl
       where
         told : chain (inspect_tests file theirs) ≡ stop (Differs place)
@@ -120,31 +119,31 @@ module _ (file theirs : List ℕ) where
         by pass q = first_of q (sym (decoder_accepts file theirs q) ∙ told)
         by (stop t) q = absurd (decoder_never_differs file theirs place (q ∙ sym (decoder_refuses file theirs q) ∙ told))
 
-    differs_if : (place : ℕ) → DiffersFirst file theirs place → r ≡ Refused (Differs place)
+    differs_if : (place : ℕ) → DiffersFirst file theirs place → r ≡ Err (Differs place)
     differs_if place h =
         let e = differing_at (layout_in file) (wide_enough file theirs h.accepted) (decoded_plane file) theirs place h.among h.here h.none in
-        same_answer r (Refused (Differs place))
+        same_answer r (Err (Differs place))
         (says_same p ∙ decoder_accepts file theirs h.accepted ∙ scan_found [] refl all found Differs [] (omega (arith, e, h.among)) ∙ ap (λ (k : ℕ). stop (Differs k)) e)
 
 -- decoding, and then comparing
-as_decoded : (file before theirs : List ℕ) → length before ≡ length theirs → (r : Answer) → Inspects file theirs r → (d : Answer) (after : List ℕ) → Decodes file before d after
+as_decoded : (file before theirs : List ℕ) → length before ≡ length theirs → (r : Result (Unit {0}) Refusal) → Inspects file theirs r → (d : Result (Unit {0}) Refusal) (after : List ℕ) → Decodes file before d after
     → said r ≡ then_compared d (layout_in file) after theirs
-as_decoded file before theirs long r p Done after d =
+as_decoded file before theirs long r p (Ok x) after d =
     let passed : chain (decode_tests file theirs) ≡ pass = by_length file theirs before (sym long) ∙ sym (says_same d.says) in
     says_same p ∙ decoder_accepts file theirs passed ∙ ap (λ (ours : List ℕ). chain (differs_test (layout_in file) ours theirs ∷ [])) (sym (decoded_is file before after d))
-as_decoded file before theirs long r p (Refused t) after d =
+as_decoded file before theirs long r p (Err t) after d =
     says_same p ∙ decoder_refuses file theirs (by_length file theirs before (sym long) ∙ sym (says_same d.says))
 
 -- a plane that the decoder left of a file is accepted with it
-pub decoded_passes : (file out plane : List ℕ) → Decodes file out Done plane → chain (inspect_tests file plane) ≡ pass
+pub decoded_passes : (file out plane : List ℕ) → Decodes file out (Ok tt) plane → chain (inspect_tests file plane) ≡ pass
 decoded_passes file out plane d =
     let passed : chain (decode_tests file out) ≡ pass = sym (says_same d.says) in
     let is = decoded_is file out plane d in
     let long : length plane ≡ length out = ap length is ∙ plane_length_law file out passed ∙ sym (lent_length file out passed) in
     none_differing file plane (by_length file plane out long ∙ passed) is
 
-pub decoded_accepted : (file out plane : List ℕ) (r : Answer) → Decodes file out Done plane → Inspects file plane r → r ≡ Done
-decoded_accepted file out plane r d p = same_answer r Done (says_same p ∙ decoded_passes file out plane d)
+pub decoded_accepted : (file out plane : List ℕ) (r : Result (Unit {0}) Refusal) → Decodes file out (Ok tt) plane → Inspects file plane r → r ≡ Ok tt
+decoded_accepted file out plane r d p = same_answer r (Ok tt) (says_same p ∙ decoded_passes file out plane d)
 
 -- ---- of a call
 
@@ -156,10 +155,10 @@ module _ (κs : Lfts 2) (a : Dens κs call.ps) (r : (res_t call.r κs).Denot) (e
   abbrev theirs : List ℕ
   theirs = a.1.0.now
 
-  pub accepts_exactly_if : (r ≡ Done) ↔ ((chain (decode_tests file theirs) ≡ pass) × (theirs ≡ decoded_plane file))
+  pub accepts_exactly_if : (r ≡ Ok tt) ↔ ((chain (decode_tests file theirs) ≡ pass) × (theirs ≡ decoded_plane file))
   accepts_exactly_if = (accepted_only file theirs r p, λ h. accepted_if file theirs r p h.0 h.1)
 
-  pub differs_exactly_if : (place : ℕ) → (r ≡ Refused (Differs place)) ↔ DiffersFirst file theirs place
+  pub differs_exactly_if : (place : ℕ) → (r ≡ Err (Differs place)) ↔ DiffersFirst file theirs place
   differs_exactly_if place = (differs_only file theirs r p place, differs_if file theirs r p place)
 
   -- of a call of the decoder with the same file, and a plane of the same length

@@ -5,14 +5,13 @@ use Rattle.std.specs.Prelude.{◌≡◌, Bool, true, false, not, List, [], ◌�
 use Rattle.lists.specs.Chain.{Test, scan_test, Verdict, pass, stop, chain}
 use Rattle.lists.specs.First.{first}
 use Rattle.refusal.specs.Number.{said, Says}
-use Rattle.refusal.specs.declared.Answer.{Answer}
-use Rattle.refusal.specs.declared.Answer.TheVariants.{Done, Refused}
 use Rattle.refusal.specs.declared.Refusal.{Refusal}
 use Rattle.refusal.specs.declared.Refusal.TheVariants.{Differs}
 use Rattle.picture.specs.declared.Layout.{Layout}
 use Rattle.picture.specs.Plane.{plane_length}
 use Rattle.picture.specs.Whole.{whole_of}
 use Rattle.plane.specs.Decode.{luma_in, body_tests, layout_in, decode_tests, decoded, decoded_plane}
+use Rattle.std.specs.Prelude.{Err, Ok, Result}
 
 -- two lists of samples differ at a place
 abbrev pub unlike : (p q : List ℕ) → (k : ℕ) → Bool
@@ -38,7 +37,7 @@ abbrev pub inspect_tests : (file theirs : List ℕ) → List (Test Refusal)
 inspect_tests file theirs = decode_tests file theirs ++ (differs_test (layout_in file) (decoded_plane file) theirs ∷ [])
 
 -- what `inspect` answers
-abbrev pub Inspects : (file theirs : List ℕ) (r : Answer) → Type 0
+abbrev pub Inspects : (file theirs : List ℕ) (r : Result (Unit {0}) Refusal) → Type 0
 Inspects file theirs r = Says (said r) (chain (inspect_tests file theirs))
 
 -- ---- the words of its theorems
@@ -51,6 +50,6 @@ pub record DiffersFirst (file theirs : List ℕ) (place : ℕ) : Type 0 where
   pub none : (k : ℕ) → k < place → differ_at (layout_in file) (decoded_plane file) theirs k ≡ false
 
 -- what comes of decoding into a plane, which answers and leaves `ours`, and then comparing it
-abbrev pub then_compared : Answer → Layout → (ours theirs : List ℕ) → Verdict Refusal
-then_compared Done l ours theirs = chain (differs_test l ours theirs ∷ [])
-then_compared (Refused r) l ours theirs = stop r
+abbrev pub then_compared : Result (Unit {0}) Refusal → Layout → (ours theirs : List ℕ) → Verdict Refusal
+then_compared (Ok x) l ours theirs = chain (differs_test l ours theirs ∷ [])
+then_compared (Err r) l ours theirs = stop r

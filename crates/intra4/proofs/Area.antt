@@ -1,18 +1,19 @@
 -- The area of all nine predictions, and the search over it.
+--     area_is                                        the rows' own flags are those that were lent
 --     area_looked, area_passed                       one mode is looked at, or is not permitted
 --     length_filled, permitted_cost, cost_is         each of the nine has sixteen samples; a mode that has a cost is permitted; and its cost is this
 --     picked                                         what it finds is the choice round the block, and its part of the area the samples
 -- Assumes nothing.
 use mathlib.Core.Path.{◌≡◌, refl, sym, ap, ap₂, subst, ◌∙◌}
 use mathlib.Core.Bool.{Bool, true, false, cond}
-use mathlib.Core.List.{List}
+use mathlib.Core.List.{List, []}
 use Prim.Native.Nat.{ℕ, ◌*◌, ◌<◌, ◌≤◌}
 use native.Mathlib.Omega.{arith}
 use lib.Dec.{eqb, eqb→eq}
-use lib.ListN.{length, take, drop}
+use lib.ListN.{length, get_or}
 use Rattle.lists.specs.Tab.{grid, tab}
 use Rattle.lists.proofs.Every.{every_at}
-use Rattle.lists.proofs.Parts.{parts_at}
+use Rattle.lists.proofs.Tab.{get_d_tab}
 use Rattle.choice.specs.declared.inner.Standing.{Standing}
 use Rattle.choice.specs.Choice.{is, no, at, best_of, sad}
 use Rattle.choice.specs.Code.{standing, looked, Small}
@@ -27,19 +28,20 @@ use Rattle.intra4.proofs.Masked.{predicted_is, filled_is}
 
 -- ---- one mode
 
-module _ (area : List ℕ) (f m : ℕ) (block : List ℕ) (b : Standing) where
-  pub area_looked : {d k : ℕ} {r : Standing} → permitted f m ≡ true → k ≡ 16 → length (take k (drop (16 * m) area)) ≡ 16
-      → d ≡ sad (length (take k (drop (16 * m) area))) (take k (drop (16 * m) area)) block → d ≤ 255 * length (take k (drop (16 * m) area))
+module _ (area : List (List ℕ)) (f m : ℕ) (block : List ℕ) (b : Standing) where
+  pub area_looked : {d : ℕ} {r : Standing} → permitted f m ≡ true → length (get_or area m []) ≡ 16
+      → d ≡ sad (length (get_or area m [])) (get_or area m []) block → d ≤ 255 * length (get_or area m [])
       → r ≡ looked m (is d) b → (r ≡ looked m (area_cost area f block m) b) × Small (area_cost area f block m)
   unfolding area_cost
-  area_looked {d} {k} p e l q u h =
-      let c : d ≡ sad 16 (take 16 (drop (16 * m) area)) block = q ∙ ap₂ (λ (n j : ℕ). sad n (take j (drop (16 * m) area)) block) l e in
+  area_looked {d} p l q u h =
+      let c : d ≡ sad 16 (get_or area m []) block = q ∙ ap (λ (n : ℕ). sad n (get_or area m []) block) l in
       let w : d < 4294967295 = omega arith in
       rw p (h ∙ ap (λ (x : ℕ). looked m (is x) b) c, subst (λ (x : ℕ). x < 4294967295) c w)
 
-  pub area_passed : permitted f m ≡ false → (b ≡ looked m (area_cost area f block m) b) × Small (area_cost area f block m)
+module _ (area : List (List ℕ)) (f m : ℕ) (block : List ℕ) where
+  pub area_passed : permitted f m ≡ false → area_cost area f block m ≡ no
   unfolding area_cost
-  area_passed p = rw p (refl, tt)
+  area_passed p = rw p
 
 -- ---- the whole search
 
@@ -47,8 +49,11 @@ pub length_filled : (t s : List ℕ) (f k : ℕ) → k < 9 → length (filled t 
 unfolding filled grid tab
 length_filled t s f k h = eqb→eq _ _ (every_at 9 (λ i. eqb (length (filled t s f i)) 16) tt k h)
 
-area_at : (t s : List ℕ) (f m : ℕ) → m < 9 → take 16 (drop (16 * m) (area_filled t s f)) ≡ filled t s f m
-area_at t s f m h = parts_at 16 (filled t s f) 9 m (length_filled t s f) h
+area_at : (t s : List ℕ) (f m : ℕ) → m < 9 → get_or (area_filled t s f) m [] ≡ filled t s f m
+area_at t s f m h = get_d_tab 9 (filled t s f) m [] h
+
+pub area_is : (t s : List ℕ) {area : List (List ℕ)} {f g : ℕ} → area ≡ area_filled t s f → f ≡ g → area ≡ area_filled t s g
+area_is t s a e = a ∙ ap (λ (f : ℕ). area_filled t s f) e
 
 cond_cost : (b : Bool) (block l : List ℕ) → cond b (is (sad 16 l block)) no ≡ cost_of 4 block (cond b (samples l) none)
 cond_cost true block l = refl
@@ -62,13 +67,13 @@ module _ (n : List ℕ) (f : ℕ) (block : List ℕ) (e : length n ≡ 13) where
       ∙ cond_cost (permitted f m) block (filled (top_row n f) (left_row n) f m)
       ∙ ap (cost_of 4 block) (sym (predicted_is n f m e))
 
-  stands : {t s area : List ℕ} {b : Standing} → t ≡ top_row n f → s ≡ left_row n → area ≡ area_filled t s f → b ≡ standing (best_of 9 (area_cost area f block))
+  stands : {t s : List ℕ} {area : List (List ℕ)} {b : Standing} → t ≡ top_row n f → s ≡ left_row n → area ≡ area_filled t s f → b ≡ standing (best_of 9 (area_cost area f block))
       → b ≡ standing (chosen (mask n f) block)
   unfolding chosen
   stands {t} {s} {area} {b} p q a h =
       let w : area ≡ area_filled (top_row n f) (left_row n) f = a ∙ ap₂ (λ (t s : List ℕ). area_filled t s f) p q in
       h
-      ∙ ap (λ (g : List ℕ). standing (best_of 9 (area_cost g f block))) w
+      ∙ ap (λ (g : List (List ℕ)). standing (best_of 9 (area_cost g f block))) w
       ∙ ap standing (best_same 9 (area_cost (area_filled (top_row n f) (left_row n) f) f block) (costs_of (mask n f) block) area_costs)
 
   pub permitted_cost : (m s : ℕ) → costs_of (mask n f) block m ≡ is s → permitted f m ≡ true
@@ -80,13 +85,13 @@ module _ (n : List ℕ) (f : ℕ) (block : List ℕ) (e : length n ≡ 13) where
       ∙ sym (cond_cost (permitted f m) block (filled (top_row n f) (left_row n) f m))
       ∙ rw a (λ i. is (sad 16 (filled (sym p i) (sym q i) f m) block))
 
-  module _ {t s area : List ℕ} {b : Standing} (p : t ≡ top_row n f) (q : s ≡ left_row n) (a : area ≡ area_filled t s f) (h : b ≡ standing (best_of 9 (area_cost area f block))) where
+  module _ {t s : List ℕ} {area : List (List ℕ)} {b : Standing} (p : t ≡ top_row n f) (q : s ≡ left_row n) (a : area ≡ area_filled t s f) (h : b ≡ standing (best_of 9 (area_cost area f block))) where
     pub picked_mode : b.mode < 9
     picked_mode =
         let w = some_mode (mask n f) block in
         subst (λ (m : ℕ). m < 9) (sym (ap (λ (x : Standing). x.mode) (stands p q a h ∙ ap standing w.2))) w.3.within
 
-    pub picked : {l : List ℕ} → l ≡ take 16 (drop (16 * b.mode) area) → Picks (mask n f) block (record { mode = b.mode; sad = b.cost; prediction = l })
+    pub picked : {l : List ℕ} → l ≡ get_or area b.mode [] → Picks (mask n f) block (record { mode = b.mode; sad = b.cost; prediction = l })
     picked {l} k =
         let w = some_mode (mask n f) block in
         let z : b ≡ standing (at w.0 w.1) = stands p q a h ∙ ap standing w.2 in
@@ -96,5 +101,5 @@ module _ (n : List ℕ) (f : ℕ) (block : List ℕ) (e : length n ≡ 13) where
           best = y ∙ sym w.2;
           prediction =
               filled_is n f b.mode e (permitted_cost b.mode w.1 c) p q
-              (k ∙ ap (λ (g : List ℕ). take 16 (drop (16 * b.mode) g)) a ∙ area_at t s f b.mode picked_mode);
+              (k ∙ ap (λ (g : List (List ℕ)). get_or g b.mode []) a ∙ area_at t s f b.mode picked_mode);
         }

@@ -1,29 +1,27 @@
--- A mode whose samples are the block's own: what the code's two tests of it come to, and that it is the choice.
---     forbidden, differs     where it is not permitted, or one sample differs, there is no such fit
---     fits_by            where the mode is permitted its SAD says it
---     vertical_ends, horizontal_ends     the first and the last sample of the two modes that are tested so
+-- A mode whose samples are the block's own: what the code's test of it comes to, and that it is the choice.
+--     differs, fits_by   one sample differs, or all are compared
+--     vertical_fits, vertical_fails, horizontal_fits     so the mode is permitted and the block's own, or vertical prediction is not
 --     vertical_picked, horizontal_picked     it is picked, where no lower mode fits so
 -- Assumes nothing.
-use mathlib.Core.Path.{◌≡◌, sym, ap, subst, ◌∙◌}
-use mathlib.Core.Bool.{Bool, true, false, not, false≢true}
+use mathlib.Core.Path.{◌≡◌, refl, sym, ap, subst, ◌∙◌}
+use mathlib.Core.Bool.{Bool, true, false, false≢true}
 use mathlib.Core.List.{List}
 use mathlib.Core.Logic.{◌↔◌}
-use Prim.Native.Nat.{ℕ, ◌<◌}
+use Prim.Native.Nat.{ℕ, ◌+◌, ◌*◌, ◌<◌}
 use native.Mathlib.Nat.{not-suc-le-zero}
 use native.Mathlib.Omega.{arith}
-use borrow.Author.Tests.{eqb-true, eq-eqb, not-false}
-use lib.Dec.{eqb}
 use lib.ListN.{length, get_or}
-use lib.Seq.{get_or-drop}
-use Rattle.lists.specs.Tab.{grid, tab}
+use Rattle.std.specs.Bool.{Decides}
+use Rattle.lists.specs.Tab.{grid}
+use Rattle.lists.proofs.Tab.{get_d_grid}
 use Rattle.choice.specs.Choice.{is, sad}
 use Rattle.choice.proofs.Least.{zero_best, same}
 use Rattle.choice.proofs.Sad.{sad_zero, sad_self}
-use Rattle.intra4.specs.Samples.{mask}
+use Rattle.intra4.specs.Samples.{mask, bit_of}
 use Rattle.intra4.specs.Rules.{permitted, vertical, horizontal}
 use Rattle.intra4.specs.Choice.{costs_of, chosen}
 use Rattle.intra4.specs.Entry.{Picks}
-use Rattle.intra4.specs.Code.{top_row, left_row, filled}
+use Rattle.intra4.specs.Code.{top_row, left_row, past_corner, filled}
 use Rattle.intra4.proofs.Area.{length_filled, permitted_cost, cost_is}
 use Rattle.intra4.proofs.Masked.{filled_is, mode_below_9}
 
@@ -31,34 +29,28 @@ use Rattle.intra4.proofs.Masked.{filled_is, mode_below_9}
 abbrev pub Exact : (t s : List ℕ) → (f m : ℕ) → (block : List ℕ) → Type 0
 Exact t s f m block = (permitted f m ≡ true) × (filled t s f m ≡ block)
 
-module _ (t s : List ℕ) (f m : ℕ) (block : List ℕ) where
-  unfit : (Exact t s f m block → ⊥) → (false ≡ true) ↔ Exact t s f m block
-  unfit h = (λ z. absurd (false≢true z), λ e. absurd (h e))
+-- what a rule gives, and the block
+module _ (g : ℕ → ℕ → ℕ) (block : List ℕ) where
+  pub differs : (x y : ℕ) {v : ℕ} → x < 4 → y < 4 → v ≡ g x y → (v ≡ get_or block (4 * y + x) 0 → ⊥) → (false ≡ true) ↔ (grid 4 g ≡ block)
+  differs x y h k e n =
+      (λ z. absurd (false≢true z), λ q. absurd (n (e ∙ sym (get_d_grid 4 g x y 0 h k) ∙ ap (λ (l : List ℕ). get_or l (4 * y + x) 0) q)))
 
-  pub forbidden : {r : Bool} → r ≡ permitted f m → not r ≡ true → (false ≡ true) ↔ Exact t s f m block
-  forbidden e h = unfit (λ x. false≢true (ap not (sym (e ∙ x.0)) ∙ h))
+  pub fits_by : (l : List ℕ) (r : Bool) → l ≡ grid 4 g → Decides r (l ≡ block) → (r ≡ true) ↔ (grid 4 g ≡ block)
+  fits_by l r e d = (λ z. sym e ∙ d.0 z, λ x. d.1 (e ∙ x))
 
-  pub differs : (k : ℕ) {b : ℕ} → get_or (filled t s f m) k 0 ≡ b → (get_or block k 0 ≡ b → ⊥) → (false ≡ true) ↔ Exact t s f m block
-  differs k e h = unfit (λ x. h (sym (ap (λ (l : List ℕ). get_or l k 0) x.1) ∙ e))
+-- what the code finds of vertical prediction, and of horizontal prediction where that is not it
+module _ (t s : List ℕ) (f : ℕ) (block : List ℕ) where
+  pub vertical_fits : bit_of f 0 ≡ true → grid 4 (vertical (past_corner t)) ≡ block → (true ≡ true) ↔ Exact t s f 0 block
+  unfolding permitted filled
+  vertical_fits a x = (λ z. (a, x), λ e. refl)
 
-  pub fits_by : {l : List ℕ} {d : ℕ} {r : Bool} → length block ≡ 16 → r ≡ permitted f m → not r ≡ false → l ≡ filled t s f m → d ≡ sad (length l) l block
-      → (eqb d 0 ≡ true) ↔ Exact t s f m block
-  fits_by {l} {d} {r} long is-r left e q =
-      let p : permitted f m ≡ true = sym is-r ∙ not-false r left in
-      let n : length l ≡ 16 = ap length e ∙ length_filled t s f m (mode_below_9 f m p) in
-      let c : d ≡ sad 16 l block = q ∙ ap (λ (k : ℕ). sad k l block) n in (
-        λ z. (p, sym e ∙ sad_zero 16 l block n long (sym c ∙ eqb-true d 0 z)),
-        λ x. eq-eqb d 0 (c ∙ ap (λ (k : List ℕ). sad 16 k block) (e ∙ x.1) ∙ sad_self 16 block),
-      )
+  pub vertical_fails : (bit_of f 0 ≡ true → grid 4 (vertical (past_corner t)) ≡ block → ⊥) → (false ≡ true) ↔ Exact t s f 0 block
+  unfolding permitted filled
+  vertical_fails h = (λ z. absurd (false≢true z), λ e. absurd (h e.0 e.1))
 
-module _ (t s : List ℕ) (f : ℕ) where
-  pub vertical_ends : (get_or (filled t s f 0) 0 0 ≡ get_or t 1 0) × (get_or (filled t s f 0) 15 0 ≡ get_or t 4 0)
-  unfolding filled grid tab vertical
-  vertical_ends = (get_or-drop 1 t 0 0, get_or-drop 1 t 3 0)
-
-  pub horizontal_ends : (get_or (filled t s f 1) 0 0 ≡ get_or s 1 0) × (get_or (filled t s f 1) 15 0 ≡ get_or s 4 0)
-  unfolding filled grid tab horizontal
-  horizontal_ends = (get_or-drop 1 s 0 0, get_or-drop 1 s 3 0)
+  pub horizontal_fits : bit_of f 1 ≡ true → grid 4 (horizontal (past_corner s)) ≡ block → (true ≡ true) ↔ Exact t s f 1 block
+  unfolding permitted filled
+  horizontal_fits a x = (λ z. (a, x), λ e. refl)
 
 -- round a block of thirteen neighbours
 module _ (n : List ℕ) (f : ℕ) (block : List ℕ) (e : length n ≡ 13) (long : length block ≡ 16) {t s : List ℕ} (p : t ≡ top_row n f) (q : s ≡ left_row n) where

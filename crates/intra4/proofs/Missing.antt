@@ -10,11 +10,12 @@ use mathlib.Core.List.{List, ◌++◌}
 use Prim.Native.Nat.{ℕ}
 use lib.ListN.{get_or, replicate}
 use Rattle.refusal.proofs.Same.{says_same, same_answer}
-use Rattle.refusal.specs.declared.Answer.{Answer}
 use Rattle.intra4.specs.declared.Chosen.{Chosen}
 use Rattle.intra4.specs.Samples.{above_of, upper_right_of, bit_of, side_if, eight_of, masked, mask, AgreeWherePresent}
 use Rattle.intra4.specs.Entry.{Predicts, Chooses}
 use Rattle.intra4.proofs.Outcome.{same_chosen}
+use Rattle.std.specs.Prelude.{Result}
+use Rattle.refusal.specs.declared.Refusal.{Refusal}
 
 pub same_side : (b : Bool) (l l' : List ℕ) → (b ≡ true → l ≡ l') → side_if b l ≡ side_if b l'
 same_side true l l' h = ap (side_if true) (h refl)
@@ -37,7 +38,7 @@ pub same_mask : (f : ℕ) (n n' : List ℕ) → AgreeWherePresent f n n' → mas
 same_mask f n n' g = same_masked f (λ b. same_eight (bit_of f 3) n n' (g.above b) (g.upper_right b)) g.left g.corner
 
 pub missing_has_no_value : (f m : ℕ) (n n' before : List ℕ) → AgreeWherePresent f n n'
-    → (r r' : Answer) (after after' : List ℕ) → Predicts n f m before r after → Predicts n' f m before r' after' → (r ≡ r') × (after ≡ after')
+    → (r r' : Result (Unit {0}) Refusal) (after after' : List ℕ) → Predicts n f m before r after → Predicts n' f m before r' after' → (r ≡ r') × (after ≡ after')
 missing_has_no_value f m n n' before g r r' after after' p q =
     let l = g.long in
     let k = same_mask f n n' g in (
@@ -46,7 +47,7 @@ missing_has_no_value f m n n' before g r r' after after' p q =
     )
 
 pub missing_has_no_value_choice : (f : ℕ) (n n' samples before : List ℕ) → AgreeWherePresent f n n'
-    → (r r' : Chosen) (after after' : List ℕ) → Chooses n f samples before r after → Chooses n' f samples before r' after' → (r ≡ r') × (after ≡ after')
+    → (r r' : Result Chosen Refusal) (after after' : List ℕ) → Chooses n f samples before r after → Chooses n' f samples before r' after' → (r ≡ r') × (after ≡ after')
 missing_has_no_value_choice f n n' samples before g r r' after after' p q =
     let l = g.long in
     let k = same_mask f n n' g in (

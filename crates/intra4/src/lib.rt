@@ -4,7 +4,7 @@
 
 ghost use Rattle.intra4.specs.Entry.{Predicts, Chooses};
 
-use refusal::{Answer, Refusal};
+use refusal::Refusal;
 
 mod fills;
 pub mod inner;
@@ -12,50 +12,55 @@ mod rules;
 mod samples;
 mod search;
 
-// The answer where a mode is chosen: its number and its SAD.
+// A mode that was chosen, by its number, and its SAD.
+// Not choice's `Standing`, which also stands for no mode yet.
 #[derive(Clone, Copy)]
-pub enum Chosen {
-    Mode(u8, u32),
-    Refused(Refusal),
+pub struct Chosen {
+    pub mode: u8,
+    pub sad: u32,
 }
 
 // A mode's sixteen samples from the neighbours M, A to H, I to L.
-pub fn predict(neighbours: &[u8], flags: u8, mode: u8, out: &mut [u8]) -> Answer
+pub fn predict(neighbours: &[u8], flags: u8, mode: u8, out: &mut [u8]) -> Result<(), Refusal>
     ensures { Predicts neighbours.now flags mode out.old result out.new }
 {
     if neighbours.len() != 13 {
-        return Answer::Refused(Refusal::Length);
+        return Err(Refusal::Length);
     }
     if out.len() != 16 {
-        return Answer::Refused(Refusal::Length);
+        return Err(Refusal::Length);
     }
     if 15 < flags {
-        return Answer::Refused(Refusal::Flags(0));
+        return Err(Refusal::Flags(0));
     }
     if inner::permitted(flags, mode) {
         inner::fill(neighbours, flags, mode, out);
-        Answer::Done
+        Ok(())
     } else {
-        Answer::Refused(Refusal::Mode(0))
+        Err(Refusal::Mode(0))
     }
 }
 
 // The permitted mode with the least SAD against the samples, the lower number on a tie; its prediction is written.
-pub fn choose(neighbours: &[u8], flags: u8, samples: &[u8], prediction: &mut [u8]) -> Chosen
+pub fn choose(
+    neighbours: &[u8],
+    flags: u8,
+    samples: &[u8],
+    prediction: &mut [u8],
+) -> Result<Chosen, Refusal>
     ensures { Chooses neighbours.now flags samples.now prediction.old result prediction.new }
 {
     if neighbours.len() != 13 {
-        return Chosen::Refused(Refusal::Length);
+        return Err(Refusal::Length);
     }
     if samples.len() != 16 {
-        return Chosen::Refused(Refusal::Length);
+        return Err(Refusal::Length);
     }
     if prediction.len() != 16 {
-        return Chosen::Refused(Refusal::Length);
+        return Err(Refusal::Length);
     }
     if 15 < flags {
-        return Chosen::Refused(Refusal::Flags(0));
+        return Err(Refusal::Flags(0));
     }
-    let best = inner::pick(neighbours, flags, samples, prediction);
-    Chosen::Mode(best.mode, best.cost)
+    Ok(inner::pick(neighbours, flags, samples, prediction))
 }

@@ -1,20 +1,63 @@
 -- Laws of the first offence.
 --     first_before, first_passes, first_le, first_is, first_none     none before; this one; no later than the end; nothing else
+--     found_some, found_none, found_ends, found_at, found_end     a place that was looked for, and back
+--     first_found                                    what the library's `find` over a range finds
 --     Searching: searching_none, searching_more, searching_here, searching_done     a loop over k that leaves at the first
 -- Assumes nothing.
-use mathlib.Core.Path.{◌≡◌, refl}
-use mathlib.Core.Bool.{Bool, true, false, cond}
+use mathlib.Core.Path.{◌≡◌, refl, sym, ap, ◌∙◌}
+use mathlib.Core.Bool.{Bool, true, false, cond, not}
 use mathlib.Core.Logic.{⊎_elim}
-use Prim.Native.Nat.{ℕ, zero, suc, ◌+◌, ◌-◌, ◌<◌, ◌≤◌, zero-le}
+use Prim.Native.Nat.{ℕ, zero, suc, ◌+◌, ◌<◌, ◌≤◌, zero-le}
 use native.Mathlib.Nat.{not-suc-le-zero, le_of_suc-le-suc, eq-or-lt_of_le}
 use native.Mathlib.Omega.{arith}
 use borrow.Author.Count.{below_more}
-use borrow.Author.Tests.{ltb-true, ltb-false}
-use lib.Dec.{ltb}
-use Rattle.lists.specs.First.{first}
+use borrow.Author.Tests.{ltb-true, ltb-false, lt-ltb, eq-eqb, ne_eqb}
+use Rattle.std.proofs.lemmas.Bool.{le-ltb}
+use lib.Dec.{eqb, ltb}
+use Rattle.std.specs.Option.{is_some, MatchOption}
+use Rattle.std.proofs.Common.{Option, Some, None}
+use Rattle.lists.specs.First.{first, found}
 
 clash : {b : Bool} → b ≡ true → b ≡ false → ⊥
 clash t f = let z : ◌≡◌ {A = ℕ} 0 1 = cc in omega arith
+
+-- ---- a place that was looked for below n
+
+module _ (n k : ℕ) where
+  some_case : (b : Bool) → ltb k n ≡ b → {p : ℕ} → cond b (Some k) None ≡ Some p → (p ≡ k) × (k < n)
+  some_case true e h = (cc, ltb-true k n e)
+  some_case false e h = absurd cc
+
+  none_case : (b : Bool) → ltb k n ≡ b → cond b (Some k) None ≡ None → n ≤ k
+  none_case true e h = absurd cc
+  none_case false e h = let l = ltb-false k n e in omega arith
+
+  pub found_some : {p : ℕ} → found n k ≡ Some p → (p ≡ k) × (k < n)
+  unfolding found
+  found_some h = some_case (ltb k n) refl h
+
+  pub found_none : found n k ≡ None → n ≤ k
+  unfolding found
+  found_none h = none_case (ltb k n) refl h
+
+  pub found_at : k < n → found n k ≡ Some k
+  unfolding found
+  found_at h = rw (lt-ltb k n h)
+
+  ends_case : (t b : Bool) → ltb k n ≡ t → k ≤ n → is_some (cond t (Some k) None) ≡ not b → b ≡ eqb k n
+  ends_case true true e h q = absurd (clash refl q)
+  ends_case true false e h q = let l = ltb-true k n e in sym (ne_eqb k n (λ z. omega arith))
+  ends_case false true e h q = let l = ltb-false k n e in sym (eq-eqb k n (omega arith))
+  ends_case false false e h q = absurd (clash q refl)
+
+  -- that none was found, as the library's `is_none` tells it, is that the search ended at n
+  pub found_ends : k ≤ n → {b : Bool} {o : Option ℕ} → o ≡ found n k → is_some o ≡ not b → b ≡ eqb k n
+  unfolding found
+  found_ends h {b} looked e = ends_case (ltb k n) b refl h (ap is_some (sym looked) ∙ e)
+
+  pub found_end : n ≤ k → found n k ≡ None
+  unfolding found
+  found_end h = rw (le-ltb k n h)
 
 module _ (p : ℕ → Bool) where
   pub first_le : (n : ℕ) → first n p ≤ n
@@ -65,6 +108,14 @@ module _ (p : ℕ → Bool) where
   first_none n none =
       let soon : (first n p < n → ⊥) = λ h. clash (first_passes n h) (none (first n p) h) in
       omega (arith, first_le n)
+
+  -- what the library's `find` over a range finds
+  pub first_found : (n : ℕ) (r : Option ℕ) → MatchOption r ((k : ℕ) → 0 ≤ k → k < n → p k ≡ false) (λ i. (0 ≤ i) × (i < n) × (p i ≡ true) × ((k : ℕ) → 0 ≤ k → k < i → p k ≡ false))
+      → r ≡ found n (first n p)
+  first_found n None h = let end = first_none n (λ k l. h k zero-le l) in sym (found_end n (first n p) (omega arith))
+  first_found n (Some i) h =
+      let is = first_is n i h.1 (λ j l. h.3 j zero-le l) h.2 in
+      ap Some (sym is) ∙ sym (found_at n (first n p) (omega (arith, h.1)))
 
   -- ---- a loop that leaves at the first
 

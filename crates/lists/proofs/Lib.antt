@@ -6,6 +6,7 @@ pub mod Every
 pub mod First
 pub mod Fold
 pub mod Keys
+pub mod Made
 pub mod Over
 pub mod Pairs
 pub mod Parts

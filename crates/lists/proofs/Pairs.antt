@@ -1,40 +1,16 @@
 -- Laws of a list that is filled by two stores a turn.
---     length_pairs, get_d_pairs                            its elements
 --     Pairing: pairing_none, pairing_more, pairing_done   a loop over k that stores f k at 2 * k and g k behind it
 -- Assumes nothing.
-use mathlib.Core.Path.{◌≡◌, refl, sym, ap, ◌∙◌}
+use mathlib.Core.Path.{◌≡◌, ◌∙◌}
 use mathlib.Core.List.{List, [], ◌∷◌, ◌++◌, append_assoc}
-use mathlib.Core.Logic.{⊎_elim}
-use Prim.Native.Nat.{ℕ, zero, suc, ◌+◌, ◌*◌, ◌<◌, ◌≤◌, zero-le}
-use native.Mathlib.Nat.{not-suc-le-zero, le_of_suc-le-suc, eq-or-lt_of_le}
+use Prim.Native.Nat.{ℕ, ◌+◌, ◌*◌, ◌<◌, ◌≤◌, zero-le}
 use native.Mathlib.Numerals.{add-one}
 use native.Mathlib.Omega.{arith}
-use lib.ListN.{length, set, get_or, length-append, length-set, get_or-append}
-use lib.Seq.{get_or-append-add}
+use lib.ListN.{length, set, length-set}
 use Rattle.lists.specs.Pairs.{pairs}
 use Rattle.lists.proofs.Parts.{Growing, growing_none, growing_more, growing_done}
 
 module _ {A : Type 0} (f g : ℕ → A) where
-  pub length_pairs : (n : ℕ) → length (pairs n f g) ≡ 2 * n
-  unfolding pairs
-  length_pairs zero = refl
-  length_pairs (suc n) = omega (arith, length-append (pairs n f g) (f n ∷ g n ∷ []), length_pairs n)
-
-  -- what stands in the last two places
-  last_pair : (n j : ℕ) (d : A) → get_or (pairs n f g ++ (f n ∷ g n ∷ [])) (2 * n + j) d ≡ get_or (f n ∷ g n ∷ []) j d
-  last_pair n j d =
-      ap (λ (i : ℕ). get_or (pairs n f g ++ (f n ∷ g n ∷ [])) (i + j) d) (sym (length_pairs n)) ∙ get_or-append-add (pairs n f g) (f n ∷ g n ∷ []) j d
-
-  -- what stands in the places of turn k: j is 0 for the first store and 1 for the second
-  pub get_d_pairs : (n k j : ℕ) (d : A) → k < n → j < 2 → get_or (pairs n f g) (2 * k + j) d ≡ get_or (f k ∷ g k ∷ []) j d
-  unfolding pairs
-  get_d_pairs zero k j d h l = absurd (not-suc-le-zero h)
-  get_d_pairs (suc n) k j d h l =
-      ⊎_elim
-      (λ (e : k ≡ n). rw e (last_pair n j d))
-      (λ (lt : k < n). get_or-append (pairs n f g) (f n ∷ g n ∷ []) d (2 * k + j) (omega (arith, length_pairs n)) ∙ get_d_pairs n k j d lt l)
-      (eq-or-lt_of_le (le_of_suc-le-suc h))
-
   pub record Pairing (n : ℕ) (d : List A) (k : ℕ) : Type 0 where
     pub below : k ≤ n
     pub long : length d ≡ 2 * n

@@ -1,6 +1,5 @@
 -- Lists that grow from the front, by stores and by lent parts that come home, and parts pasted into a list.
 --     Growing: growing_none, growing_more, growing_part, growing_done       the first n elements are v
---     growing_all, last_two                                                 straight stores at 0, 1, ..; in the last two places
 --     copied                                                                a whole list copied over another
 --     parts_more, parts_same                                                parts one behind the other; equal rules
 --     parts_split, parts_front, part_behind                                 what stands before part k and behind it
@@ -16,7 +15,7 @@ use native.Mathlib.Numerals.{add-one}
 use native.Mathlib.Omega.{arith}
 use borrow.Rule.Slice.PartMut.{put_mid, post_of, Post-is}
 use lib.ListN.{length, set, take, drop, length-append, length-set, length-drop, drop_of_length-le}
-use lib.Seq.{take-suc-set, take_all, take-length, take_at, take-append-le, drop_at, drop-append-le, length-take-le, sets, sets-eq, length-sets}
+use lib.Seq.{take-suc-set, take_all, take-length, take_at, take-append-le, drop_at, drop-append-le, length-take-le}
 use Rattle.lists.specs.Parts.{parts, pasted, over}
 
 module _ {A : Type 0} where
@@ -37,13 +36,6 @@ module _ {A : Type 0} where
     is = rw (add-one, take-suc-set d n x h) (ap (λ (l : List A). l ++ (x ∷ [])) g.is);
   }
 
-  -- stores of v at 0, 1, .., one statement each
-  pub growing_all : (v d : List A) → length v ≤ length d → Growing (sets d 0 v) v (length v)
-  growing_all v d h = record {
-    room = rw length-sets h;
-    is = ap (take (length v)) (sets-eq v d 0 (omega arith)) ∙ take_at v (drop (0 + length v) d) (length v) refl;
-  }
-
   -- the part from a to e was lent behind what has grown, and has come home as w
   pub growing_part : {d v : List A} {a : ℕ} (w : List A) (e : ℕ) → Growing d v a → a ≤ e → e ≤ length d → length w ≡ e - a → Growing (put_mid a (e - a) d w) (v ++ w) e
   growing_part {d} {v} {a} w e g h k l =
@@ -60,12 +52,6 @@ module _ {A : Type 0} where
   -- s copied over the front of a list that is as long
   pub copied : (s d : List A) → length s ≡ length d → take (length s) s ++ drop (length s) d ≡ s
   copied s d e = rw (take-length s, drop_of_length-le d {i = length s} (omega arith)) (append-nil s)
-
-  pub last_two : (d : List A) (n : ℕ) (a b : A) → length d ≡ n + 2 → set (set d n a) (n + 1) b ≡ take n d ++ (a ∷ b ∷ [])
-  last_two d n a b e =
-      let g : Growing d (take n d) n = record { room = omega arith; is = refl } in
-      let h = growing_more b (growing_more a g (omega arith)) (simp length-set (omega arith)) in
-      growing_done h (simp length-set (omega arith)) ∙ append_assoc (take n d) (a ∷ []) (b ∷ [])
 
   -- ---- parts one behind the other
 

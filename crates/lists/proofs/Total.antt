@@ -1,6 +1,7 @@
 -- The loop that adds f k in turn k, each at most b, so that the sum is known to fit.
 --     total_same     equal numbers
 --     Totalling: totalling_none, totalling_more, totalling_done
+--     total_first    a sum from its first term on
 --     total_low, term_low     a sum of terms that are at most b; each term is at most the sum
 -- Assumes nothing.
 use mathlib.Core.Path.{◌≡◌, refl, ◌∙◌}
@@ -15,6 +16,12 @@ pub total_same : (n : ℕ) (f g : ℕ → ℕ) → ((k : ℕ) → k < n → f k 
 unfolding total
 total_same zero f g h = refl
 total_same (suc n) f g h = rw (total_same n f g (λ k l. h k (omega arith)), h n (omega arith))
+
+-- a sum from its first term on
+pub total_first : (n : ℕ) (f : ℕ → ℕ) → total (suc n) f ≡ f 0 + total n (λ k. f (suc k))
+unfolding total
+total_first zero f = omega arith
+total_first (suc n) f = omega (arith, total_first n f)
 
 pub record Totalling (n : ℕ) (f : ℕ → ℕ) (b sum k : ℕ) : Type 0 where
   pub below : k ≤ n

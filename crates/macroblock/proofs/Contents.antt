@@ -1,5 +1,4 @@
 -- The content of a record of either kind, and that a decoder accepts the coder's record and rebuilds its macroblock as the coder did.
---     kind_long                   either kind has a mark
 --     tests_whole, tests_fours, rebuilt_whole, rebuilt_fours     the tests and the step of a record, by its kind
 --     content_legal               a record whose content is fine has a legal QP
 --     content_kind                the refusals of a record's content are those of content
@@ -9,8 +8,7 @@
 use mathlib.Core.Path.{◌≡◌, refl, sym, ap, ◌∙◌}
 use mathlib.Core.Bool.{Bool, true, false, cond}
 use mathlib.Core.List.{List}
-use Prim.Native.Nat.{ℕ, ◌*◌, ◌<◌, ◌≤◌}
-use native.Mathlib.Omega.{arith}
+use Prim.Native.Nat.{ℕ, ◌*◌, ◌≤◌}
 use Rattle.lists.specs.Bytes.{Bytes}
 use Rattle.lists.specs.Chain.{pass, chain}
 use Rattle.lists.proofs.Chain.{chain_exactly_if}
@@ -18,7 +16,6 @@ use Rattle.refusal.specs.Faults.{is_content}
 use Rattle.refusal.proofs.Faults.{all_of}
 use Rattle.quantizer.specs.Range.{highest}
 use Rattle.quantizer.proofs.Range.{number_legal}
-use Rattle.record.specs.Kinds.{in_fours, in_whole, length_of}
 use Rattle.record.specs.Records.{is_whole, qp_in}
 use Rattle.picture.specs.declared.Layout.{Layout}
 use Rattle.macroblock4.specs.Code.{record_from4, coded_step4}
@@ -31,17 +28,9 @@ use Rattle.macroblock16.specs.Content.{content_tests16}
 use Rattle.macroblock16.specs.Rebuild.{rebuilt_step16}
 use Rattle.macroblock16.proofs.CodedRecord.{qp_said16, is_whole_from16, content_own16, step_again16}
 use Rattle.macroblock.specs.Code.{record_from, coded_step}
-use Rattle.macroblock.specs.Content.{kind_by, content_tests}
+use Rattle.macroblock.specs.Content.{content_tests}
 use Rattle.macroblock.specs.Rebuild.{rebuilt_step}
 use Rattle.macroblock.proofs.RecordFrom.{whichever, together}
-
--- either kind has a mark
-pub kind_long : (part : List ℕ) → 1 < length_of (kind_by part)
-kind_long part = by (is_whole part)
-  where
-    by : (b : Bool) → 1 < length_of (cond b in_whole in_fours)
-    by true = omega arith
-    by false = omega arith
 
 module _ (l : Layout) (m : ℕ) (part : List ℕ) where
   pub tests_whole : is_whole part ≡ true → content_tests l m part ≡ content_tests16 l m part

@@ -19,10 +19,12 @@ ghost use Rattle.macroblock.specs.Winner.{taken, winning};
 use choice::inner::Standing;
 use picture::Layout;
 use quantizer::Quantizer;
-use refusal::Answer;
+use refusal::Refusal;
 
 // The content of macroblock m's record.
-pub fn test_macroblock(layout: Layout, m: usize, part: &[u8]) -> Answer
+// By the record's mark, here and below: the two kinds share no type that a trait could be of.
+#[tactic(auto, unfolding(crate::specs::Content::content_tests))]
+pub fn test_macroblock(layout: Layout, m: usize, part: &[u8]) -> Result<(), Refusal>
     requires { (Among layout m 0) × (length part.now ≡ length_of (kind_by part.now)) }
     ensures { said result ≡ chain (content_tests layout m part.now) }
 {
@@ -34,6 +36,7 @@ pub fn test_macroblock(layout: Layout, m: usize, part: &[u8]) -> Answer
 }
 
 // The 256 samples of macroblock m by a record whose content is fine, beside a plane that is only read.
+#[tactic(auto, unfolding(crate::specs::Content::content_tests, crate::specs::Rebuild::rebuilt_step))]
 pub fn rebuild_beside(layout: Layout, m: usize, part: &[u8], plane: &[u8], own: &mut [u8])
     requires among { (Among layout m 0) × (length part.now ≡ length_of (kind_by part.now)) × (length plane.now ≡ plane_length 16 layout) × (length own.old ≡ 256) }
     requires part_value { chain (content_tests layout m part.now) ≡ pass }
@@ -58,6 +61,7 @@ pub fn rebuild_macroblock(layout: Layout, m: usize, part: &[u8], plane: &mut [u8
 }
 
 // The part of the winning area, uncopied: that of 16x16 exactly if its SAD is below the sum of the sixteen others.
+#[tactic(auto, unfolding(crate::specs::Winner::winning))]
 pub(crate) fn winner<'a>(
     four: &'a [i32],
     sixteen: &'a [i32],
@@ -77,6 +81,7 @@ pub(crate) fn winner<'a>(
 
 // The candidate of 16x16 for a macroblock whose sixteen others cost so much together. Where they cost nothing it cannot cost less, and its work is
 // left out.
+// For none a cost above any other and no `Option`: the comparisons of costs then need no second case.
 fn code_below(
     layout: Layout,
     m: usize,
@@ -130,7 +135,7 @@ pub fn code_macroblock(
         &mut sixteen,
         &mut prediction,
     );
-    let together = whole.cost as u64;
+    let together = u64::from(whole.cost);
     let levels = winner(&four, &sixteen, fours.sad, together);
     let qp = quantizer.number();
     if together < fours.sad {

@@ -1,6 +1,6 @@
 -- What the tests of a record's content come to, and what a fine content gives.
 --     levels_small16                   levels read from a file have 16 bits
---     quantizer_high16, mode_lacking, dc_far, ac_far, content_fine16     the five verdicts
+--     dc_far, ac_far, content_fine16   the verdicts behind a legal number and a permitted mode
 --     Fine16, fine16                   what is known of a record whose content is fine
 -- Assumes nothing.
 use mathlib.Core.Path.{◌≡◌, sym, ap, ◌∙◌}
@@ -17,7 +17,7 @@ use Rattle.whole.specs.Bounds.{Each}
 use Rattle.whole.proofs.Bound.{sixteen_bits}
 use Rattle.whole.proofs.Lists.{each_tab}
 use Rattle.quantizer.specs.Range.{highest}
-use Rattle.quantizer.proofs.Range.{number_passes, number_fails, number_legal}
+use Rattle.quantizer.proofs.Range.{number_passes, number_legal}
 use Rattle.sides.specs.Rules.{permitted}
 use Rattle.residual_whole.specs.Rebuilt.{dc_fits, ac_fits, first_ac}
 use Rattle.record.specs.Kinds.{in_whole}
@@ -36,13 +36,7 @@ module _ (l : Layout) (m : ℕ) (part : List ℕ) where
   unfolding first_ac
   ac_le = first_le (λ b. not (ac_fits 16 (qp_in part) (whole_levels_in part) b)) 16
 
-  pub quantizer_high16 : highest < qp_in part → chain (content_tests16 l m part) ≡ stop (refusal.Quantizer (16 * m))
-  quantizer_high16 h = simp (number_fails (16 * m) (qp_in part) h)
-
   module _ (legal : qp_in part ≤ highest) where
-    pub mode_lacking : permitted (flags_round 16 l m) (whole_mode_in part) ≡ false → chain (content_tests16 l m part) ≡ stop (refusal.Mode (16 * m))
-    mode_lacking e = simp (number_passes (16 * m) (qp_in part) legal, e)
-
     module _ (allowed : permitted (flags_round 16 l m) (whole_mode_in part) ≡ true) where
       pub dc_far : dc_fits 16 (qp_in part) (whole_levels_in part) ≡ false → chain (content_tests16 l m part) ≡ stop (refusal.Range (16 * m))
       dc_far e = simp (number_passes (16 * m) (qp_in part) legal, allowed, e)

@@ -8,7 +8,7 @@
 --     block_again, step_again4               its blocks are rebuilt as the coder rebuilt them
 -- Assumes nothing.
 use mathlib.Core.Path.{◌≡◌, sym, ap, ◌∙◌}
-use mathlib.Core.Bool.{Bool, true, false, not}
+use mathlib.Core.Bool.{true, not}
 use mathlib.Core.List.{List}
 use Prim.Native.Nat.{ℕ, ◌<◌, ◌≤◌}
 use native.Mathlib.Omega.{arith}
@@ -17,6 +17,7 @@ use lib.IntN.{ℤ, pos}
 use lib.ListN.{length, get_or}
 use mir.Syntax.{w16}
 use mir.Val.{SFits}
+use Rattle.std.proofs.lemmas.Bool.{not_from_true}
 use Rattle.lists.specs.Chain.{pass, chain}
 use Rattle.lists.specs.Bytes.{Bytes}
 use Rattle.lists.proofs.First.{first_none}
@@ -45,10 +46,6 @@ use Rattle.macroblock4.specs.Code.{round_of, mode_from, levels_from, samples_fro
 use Rattle.macroblock4.proofs.RecordFrom.{length_levels_from, length_blocks_from}
 use Rattle.macroblock4.proofs.Coding.{modes_small}
 use Rattle.macroblock4.proofs.Contents.{content_fine}
-
--- a test that passes does not fail
-passing : {t : Bool} → t ≡ true → not t ≡ false
-passing e = rw e
 
 module _ (l : Layout) (qp : ℕ) (legal : qp ≤ highest) (original : List ℕ) (bytes : Bytes original) where
   pub laws_at : (m b : ℕ) (neighbours : List ℕ) → length neighbours ≡ 13 → Bytes neighbours → BlockLaws qp neighbours (flags_of 4 l m b) (block_of 4 l m b original)
@@ -118,8 +115,8 @@ module _ (l : Layout) (qp : ℕ) (legal : qp ≤ highest) (original : List ℕ) 
     pub content_own4 : chain (content_tests4 l m own) ≡ pass
     unfolding first_mode first_range
     content_own4 =
-        let modes : first_mode l m own ≡ 16 = first_none (λ b. not (mode_holds l m own b)) 16 (λ b h. passing (mode_holds_law b h)) in
-        let ranges : first_range own ≡ 16 = first_none (λ b. not (range_holds own b)) 16 (λ b h. passing (range_holds_law b h)) in
+        let modes : first_mode l m own ≡ 16 = first_none (λ b. not (mode_holds l m own b)) 16 (λ b h. not_from_true (mode_holds l m own b) (mode_holds_law b h)) in
+        let ranges : first_range own ≡ 16 = first_none (λ b. not (range_holds own b)) 16 (λ b h. not_from_true (range_holds own b) (range_holds_law b h)) in
         content_fine l m own (omega (arith, qp_said)) (omega (arith, modes)) (omega (arith, ranges))
 
     -- ---- its blocks are rebuilt as the coder rebuilt them

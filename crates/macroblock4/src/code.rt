@@ -5,6 +5,7 @@ ghost use Rattle.picture.specs.Order.{Among};
 ghost use Rattle.picture.specs.Plane.{plane_length, gathered, turn};
 ghost use Rattle.macroblock4.specs.Code.{mode_from, sad_from, levels_from, samples_from};
 
+use block::inner::Block;
 use choice::inner::Standing;
 use picture::Layout;
 use quantizer::Quantizer;
@@ -29,13 +30,13 @@ pub(crate) fn code_turn(
     let flags = picture::inner::flags(layout, m, b);
     let neighbours = picture::inner::gather(rebuilt, layout, m, b);
     let samples = picture::inner::read_block(plane, layout, m, b);
-    let block = block::inner::coded(quantizer, &neighbours, flags, &samples);
-    let made = block.levels;
-    let back = block.rebuilt;
-    whole::inner::copy(&made, levels);
-    picture::inner::store_block(rebuilt, layout, m, b, back);
-    Standing {
-        mode: block.mode,
-        cost: block.sad,
-    }
+    let Block {
+        mode,
+        sad: cost,
+        levels: own_levels,
+        rebuilt: own,
+    } = block::inner::coded(quantizer, &neighbours, flags, &samples);
+    levels.copy_from_slice(&own_levels);
+    picture::inner::store_block(rebuilt, layout, m, b, own);
+    Standing { mode, cost }
 }

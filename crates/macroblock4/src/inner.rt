@@ -11,41 +11,41 @@ ghost use Rattle.macroblock4.specs.Code.{modes_from, sads_from, blocks_from, cod
 ghost use Rattle.macroblock4.specs.Content.{content_tests4};
 ghost use Rattle.macroblock4.specs.Rebuild.{rebuilt_step4};
 
+use crate::content::Quantized;
 use crate::{code, content, rebuild};
 use picture::Layout;
-use quantizer::{Built, Quantizer};
-use refusal::{Answer, Refusal};
+use quantizer::Quantizer;
+use refusal::Refusal;
 
 // The content of macroblock m's record: QUANTIZER, all modes, then ranges.
-pub fn test_macroblock4(layout: Layout, m: usize, part: &[u8]) -> Answer
+#[tactic(auto, using(lists::proofs::First::found_some))]
+pub fn test_macroblock4(layout: Layout, m: usize, part: &[u8]) -> Result<(), Refusal>
     requires { (Among layout m 0) × (length part.now ≡ length_of in_fours) }
     ensures { said result ≡ chain (content_tests4 layout m part.now) }
 {
-    let Built::Legal(quantizer) = Quantizer::new(record::inner::qp(part)) else {
-        return Answer::Refused(Refusal::Quantizer(16 * m));
-    };
-    let mode = content::first_mode(layout, m, part);
-    if mode < 16 {
-        return Answer::Refused(Refusal::Mode(16 * m + mode));
+    let qp = record::inner::qp(part);
+    let quantizer = Quantizer::new(qp).map_err(|_| Refusal::Quantizer(16 * m))?;
+    if let Some(block) = content::first_mode(layout, m, part) {
+        return Err(Refusal::Mode(16 * m + block));
     }
-    let range = content::first_range(quantizer, part);
-    if range < 16 {
-        return Answer::Refused(Refusal::Range(16 * m + range));
+    let quantized = Quantized { quantizer, part };
+    if let Some(block) = quantized.first_range() {
+        return Err(Refusal::Range(16 * m + block));
     }
-    Answer::Done
+    Ok(())
 }
 
 // The 256 samples of macroblock m, of a record whose content is fine, block after block, beside a plane that is only read.
+// The quantizer is never refused here, since the content is fine.
 pub fn rebuild_beside4(layout: Layout, m: usize, part: &[u8], plane: &[u8], own: &mut [u8])
     requires among { (Among layout m 0) × (length part.now ≡ length_of in_fours) × (length plane.now ≡ plane_length 16 layout) × (length own.old ≡ 256) }
     requires part_value { chain (content_tests4 layout m part.now) ≡ pass }
     ensures { own.new ≡ whole_of 16 layout m (rebuilt_step4 layout m part.now plane.now) }
 {
-    let Built::Legal(quantizer) = Quantizer::new(record::inner::qp(part)) else {
-        return;
-    };
+    let quantizer = Quantizer::new(record::inner::qp(part)).unwrap();
+    let quantized = Quantized { quantizer, part };
     for b in 0usize..16 {
-        rebuild::rebuild_turn(layout, m, b, quantizer, part, plane, own);
+        rebuild::rebuild_turn(layout, m, b, quantized, plane, own);
     }
 }
 
@@ -74,20 +74,12 @@ pub fn code_candidate4(
 {
     let mut modes = [0u8; 16];
     let mut sad: u64 = 0;
-    for b in 0usize..16 {
-        let at = 16 * b;
-        let end = at + 16;
-        let turn = code::code_turn(
-            layout,
-            m,
-            b,
-            quantizer,
-            plane,
-            &mut levels[at..end],
-            rebuilt,
-        );
-        modes[b] = turn.mode;
-        sad += turn.cost as u64;
+    // A part by its places: of parts from `chunks_exact_mut` a proof knows no element once they are back.
+    for (b, mode) in modes.iter_mut().enumerate() {
+        let own = &mut levels[16 * b..16 * b + 16];
+        let turn = code::code_turn(layout, m, b, quantizer, plane, own, rebuilt);
+        *mode = turn.mode;
+        sad += u64::from(turn.cost);
     }
     Fours { modes, sad }
 }

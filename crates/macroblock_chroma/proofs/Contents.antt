@@ -1,6 +1,5 @@
 -- What the tests of a chroma record's content come to, and what a fine content gives.
 --     both_small                         levels read from a file have 16 bits
---     range_parts                        the two tests of a plane's range, in one
 --     offset_outside, mode_lacking_chroma, range_far_chroma     the refusals
 --     fine_chroma, content_fine_chroma   the tests pass exactly if the content is fine, at whatever place
 --     chroma_kind                        the refusals are those of content
@@ -10,8 +9,7 @@ use mathlib.Core.Bool.{Bool, true, false, ◌&&◌}
 use mathlib.Core.List.{List, [], ◌∷◌, ◌++◌}
 use Prim.Native.Nat.{ℕ, ◌+◌, ◌*◌}
 use lib.Dec.{eqb}
-use lib.IntN.{ℤ, pos}
-use borrow.Author.Tests.{eqb-true}
+use lib.IntN.{pos}
 use Rattle.lists.specs.Chain.{Test, test, pass, stop, chain}
 use Rattle.lists.proofs.Chain.{chain_exactly_if}
 use Rattle.lists.proofs.Every.{both_true}
@@ -39,13 +37,6 @@ unfolding all_levels_in
 both_small part = each_tab 32768 128 (λ i. level_with in_chroma i part) (λ i h. sixteen_bits (number_at (in_chroma.front + 2 * i) part))
 
 -- ---- the verdicts
-
--- the two tests of a plane's range, in one
-pub range_parts : (qp : ℕ) (levels : List ℤ) → in_range qp levels ≡ true → (dc_fits 8 qp levels ≡ true) × (first_ac 8 qp levels ≡ 4)
-unfolding in_range
-range_parts qp levels e =
-    let b = both_true (dc_fits 8 qp levels) (eqb (first_ac 8 qp levels) 4) e in
-    (b.0, eqb-true (first_ac 8 qp levels) 4 b.1)
 
 -- tests with one refusal, two before others or four
 either_fails : {r : Refusal} (a b : Bool) (rest : List (Test Refusal)) → (a && b) ≡ false → chain (test a r ∷ test b r ∷ rest) ≡ stop r

@@ -1,6 +1,5 @@
 pub mod CodedRecord
 pub mod Contents
-pub mod Halves
 pub mod Looks
 pub mod Making
 pub mod Missing

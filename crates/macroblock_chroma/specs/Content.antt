@@ -14,7 +14,8 @@ use Rattle.record.specs.Records.{all_levels_in, cb_offset_in, cr_offset_in, chro
 use Rattle.picture.specs.declared.Layout.{Layout}
 use Rattle.picture.specs.Whole.{flags_round}
 use Rattle.macroblock_chroma.specs.declared.Quantizers.{Quantizers}
-use Rattle.macroblock_chroma.specs.declared.Quantizers.TheVariants.{Legal, Refused}
+use Rattle.quantizer.specs.declared.Quantizer.{Quantizer}
+use Rattle.std.specs.Prelude.{Option, Some, None}
 
 -- "64 levels of Cb then of Cr (4 DC, then 4 times 15 AC)"
 unfoldable pub cb_levels_in : List ℕ → List ℤ
@@ -30,12 +31,15 @@ cb_quantizer qp part = chroma_of qp (cb_offset_in part)
 abbrev pub cr_quantizer : (qp : ℕ) → List ℕ → ℕ
 cr_quantizer qp part = chroma_of qp (cr_offset_in part)
 
+abbrev pub both_of : (cb cr : Quantizer) → Option Quantizers
+both_of cb cr = Some (record { cb = cb; cr = cr })
+
 -- both, where both offsets are "of -12 to 12" (01)
-unfoldable pub quantizers_of : (qp : ℕ) → (cb_offset cr_offset : ℤ) → Quantizers
+unfoldable pub quantizers_of : (qp : ℕ) → (cb_offset cr_offset : ℤ) → Option Quantizers
 quantizers_of qp cb_offset cr_offset =
     cond (inside (minus 12) (pos 12) cb_offset && inside (minus 12) (pos 12) cr_offset)
-    (Legal (record { qp = chroma_of qp cb_offset }) (record { qp = chroma_of qp cr_offset }))
-    Refused
+    (both_of (record { qp = chroma_of qp cb_offset }) (record { qp = chroma_of qp cr_offset }))
+    None
 
 -- "QUANTIZER for either offset": it is "of -12 to 12" (01)
 abbrev pub offset_test : (place : ℕ) → ℤ → Test Refusal

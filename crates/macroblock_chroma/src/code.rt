@@ -9,11 +9,12 @@ ghost use Rattle.picture.specs.Plane.{plane_length};
 ghost use Rattle.picture.specs.Whole.{whole_of, with_whole};
 ghost use Rattle.macroblock_chroma.specs.Code.{PredictsBoth};
 
-use crate::rebuild;
+use crate::{Quantizers, rebuild};
 use picture::Layout;
 use quantizer::Quantizer;
 
-// One mode for both planes beside what has been rebuilt, and the two predictions in it.
+// One mode for both planes beside what has been rebuilt, and the two predictions in it. Cb's slices and Cr's stay apart: each is read by itself, and
+// `chroma::inner::choose_for_both` takes them so; in `code_both` and in `rebuild::rebuild_both` likewise, each plane goes on by itself.
 pub(crate) fn predict_both(
     layout: Layout,
     m: usize,
@@ -67,7 +68,7 @@ fn code_one(
 {
     let mut samples = [0u8; 64];
     picture::inner::read_whole(original, layout, 8, m, &mut samples);
-    residual_whole::inner::levels8(quantizer, prediction, &samples, levels);
+    residual_whole::inner::levels(8, quantizer, prediction, &samples, levels);
     rebuild::store_one(layout, m, quantizer, prediction, levels, plane);
 }
 
@@ -75,8 +76,7 @@ fn code_one(
 pub(crate) fn code_both(
     layout: Layout,
     m: usize,
-    first: Quantizer,
-    second: Quantizer,
+    both: Quantizers,
     cb: &[u8],
     cr: &[u8],
     cb_prediction: &[u8],
@@ -85,29 +85,14 @@ pub(crate) fn code_both(
     cb_out: &mut [u8],
     cr_out: &mut [u8],
 )
-    requires among { (Among layout m 0) × (first.qp ≤ highest) × (second.qp ≤ highest) × (length cb.now ≡ plane_length 8 layout) × (length cr.now ≡ plane_length 8 layout) }
+    requires among { (Among layout m 0) × (both.cb.qp ≤ highest) × (both.cr.qp ≤ highest) × (length cb.now ≡ plane_length 8 layout) × (length cr.now ≡ plane_length 8 layout) }
     requires cb_prediction_len { (length cb_prediction.now ≡ 64) × (length cr_prediction.now ≡ 64) × (length levels.old ≡ 128) }
     requires cb_out_len { (length cb_out.old ≡ plane_length 8 layout) × (length cr_out.old ≡ plane_length 8 layout) }
-    ensures levels_after { levels.new ≡ whole_levels 8 first.qp (whole_of 8 layout m cb.now) cb_prediction.now ++ whole_levels 8 second.qp (whole_of 8 layout m cr.now) cr_prediction.now }
-    ensures cb_out_after { cb_out.new ≡ with_whole 8 layout m (whole_samples 8 first.qp cb_prediction.now (whole_levels 8 first.qp (whole_of 8 layout m cb.now) cb_prediction.now)) cb_out.old }
-    ensures cr_out_after { cr_out.new ≡ with_whole 8 layout m (whole_samples 8 second.qp cr_prediction.now (whole_levels 8 second.qp (whole_of 8 layout m cr.now) cr_prediction.now)) cr_out.old }
+    ensures levels_after { levels.new ≡ whole_levels 8 both.cb.qp (whole_of 8 layout m cb.now) cb_prediction.now ++ whole_levels 8 both.cr.qp (whole_of 8 layout m cr.now) cr_prediction.now }
+    ensures cb_out_after { cb_out.new ≡ with_whole 8 layout m (whole_samples 8 both.cb.qp cb_prediction.now (whole_levels 8 both.cb.qp (whole_of 8 layout m cb.now) cb_prediction.now)) cb_out.old }
+    ensures cr_out_after { cr_out.new ≡ with_whole 8 layout m (whole_samples 8 both.cr.qp cr_prediction.now (whole_levels 8 both.cr.qp (whole_of 8 layout m cr.now) cr_prediction.now)) cr_out.old }
 {
-    code_one(
-        layout,
-        m,
-        first,
-        cb,
-        cb_prediction,
-        &mut levels[0..64],
-        cb_out,
-    );
-    code_one(
-        layout,
-        m,
-        second,
-        cr,
-        cr_prediction,
-        &mut levels[64..128],
-        cr_out,
-    );
+    let (cb_levels, cr_levels) = levels.split_at_mut(64);
+    code_one(layout, m, both.cb, cb, cb_prediction, cb_levels, cb_out);
+    code_one(layout, m, both.cr, cr, cr_prediction, cr_levels, cr_out);
 }

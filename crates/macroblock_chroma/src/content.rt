@@ -4,28 +4,24 @@ ghost use Rattle.whole.specs.Bounds.{Each};
 ghost use Rattle.quantizer.specs.Range.{highest};
 ghost use Rattle.macroblock_chroma.specs.Fine.{in_range};
 
+use crate::Quantizers;
 use quantizer::Quantizer;
 
 // The 64 levels of a plane: the DC values, then the AC.
+#[tactic(auto, unfolding(crate::specs::Fine::in_range))]
 fn one_in_range(quantizer: Quantizer, levels: &[i32]) -> bool
     requires { (quantizer.qp ≤ highest) × (length levels.now ≡ 64) × (Each 32768 levels.now) }
     ensures { result ≡ in_range quantizer.qp levels.now }
 {
-    if residual_whole::inner::dc_fits8(quantizer, levels) {
-        residual_whole::inner::first_ac(8, quantizer, levels) == 4
-    } else {
-        false
-    }
+    residual_whole::inner::dc_fits(8, quantizer, levels)
+        && residual_whole::inner::first_ac(8, quantizer, levels).is_none()
 }
 
 // Those of Cb, then of Cr.
-pub(crate) fn both_in_range(cb: Quantizer, cr: Quantizer, levels: &[i32]) -> bool
-    requires { (cb.qp ≤ highest) × (cr.qp ≤ highest) × (length levels.now ≡ 128) × (Each 32768 levels.now) }
-    ensures { result ≡ (in_range cb.qp (take 64 levels.now) && in_range cr.qp (drop 64 levels.now)) }
+pub(crate) fn both_in_range(both: Quantizers, levels: &[i32]) -> bool
+    requires { (both.cb.qp ≤ highest) × (both.cr.qp ≤ highest) × (length levels.now ≡ 128) × (Each 32768 levels.now) }
+    ensures { result ≡ (in_range both.cb.qp (take 64 levels.now) && in_range both.cr.qp (drop 64 levels.now)) }
 {
-    if one_in_range(cb, &levels[0..64]) {
-        one_in_range(cr, &levels[64..128])
-    } else {
-        false
-    }
+    let (first, second) = levels.split_at(64);
+    one_in_range(both.cb, first) && one_in_range(both.cr, second)
 }

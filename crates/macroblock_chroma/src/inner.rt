@@ -17,46 +17,47 @@ ghost use Rattle.macroblock_chroma.specs.Rebuild.{cb_step, cr_step};
 
 use crate::{Quantizers, code, content, rebuild};
 use picture::Layout;
-use quantizer::Built;
-use refusal::{Answer, Refusal};
+use refusal::Refusal;
 
-// Both quantizers of a macroblock's QP: Cb and Cr have an offset each.
-fn both_quantizers(qp: u8, cb_offset: i32, cr_offset: i32) -> Quantizers
+// Both quantizers of a macroblock's QP: Cb and Cr have an offset each. None where one is out of its range.
+// The offsets come one by one, as the record and `code_chroma_unique` have them.
+fn both_quantizers(qp: u8, cb_offset: i32, cr_offset: i32) -> Option<Quantizers>
     requires { qp ≤ highest }
     ensures { result ≡ quantizers_of qp cb_offset cr_offset }
 {
-    let Built::Legal(cb) = quantizer::chroma_quantizer(qp, cb_offset) else {
-        return Quantizers::Refused;
-    };
-    let Built::Legal(cr) = quantizer::chroma_quantizer(qp, cr_offset) else {
-        return Quantizers::Refused;
-    };
-    Quantizers::Legal(cb, cr)
+    let cb = quantizer::chroma_quantizer(qp, cb_offset).ok()?;
+    let cr = quantizer::chroma_quantizer(qp, cr_offset).ok()?;
+    Some(Quantizers { cb, cr })
 }
 
 // The content of macroblock m's chroma record, which begins at a place of the file: QUANTIZER of Cb's offset and of Cr's, MODE, then RANGE.
-pub fn test_chroma(layout: Layout, m: usize, qp: u8, place: usize, part: &[u8]) -> Answer
+pub fn test_chroma(
+    layout: Layout,
+    m: usize,
+    qp: u8,
+    place: usize,
+    part: &[u8],
+) -> Result<(), Refusal>
     requires { (Among layout m 0) × (qp ≤ highest) × (length part.now ≡ length_of in_chroma) }
     ensures { said result ≡ chain (content_tests_chroma layout m qp place part.now) }
 {
     let cb_offset = record::inner::cb_offset(part);
     let cr_offset = record::inner::cr_offset(part);
-    let Quantizers::Legal(cb, cr) = both_quantizers(qp, cb_offset, cr_offset) else {
-        return Answer::Refused(Refusal::Quantizer(place));
-    };
+    let both = both_quantizers(qp, cb_offset, cr_offset).ok_or(Refusal::Quantizer(place))?;
     let flags = picture::inner::flags_round(layout, m);
     if !chroma::inner::permitted(flags, record::inner::chroma_mode(part)) {
-        return Answer::Refused(Refusal::Mode(place));
+        return Err(Refusal::Mode(place));
     }
     let mut levels = [0i32; 128];
     record::inner::both_levels(part, &mut levels);
-    if !content::both_in_range(cb, cr, &levels) {
-        return Answer::Refused(Refusal::Range(place));
+    if !content::both_in_range(both, &levels) {
+        return Err(Refusal::Range(place));
     }
-    Answer::Done
+    Ok(())
 }
 
 // Macroblock m's chroma by a record whose content is fine, of the macroblock's QP.
+// The offsets are never refused here, since the content is fine.
 pub fn rebuild_chroma(layout: Layout, m: usize, qp: u8, part: &[u8], cb: &mut [u8], cr: &mut [u8])
     requires among { (Among layout m 0) × (qp ≤ highest) × (length part.now ≡ length_of in_chroma) × (FineChroma layout m qp part.now) }
     requires cb_len { (length cb.old ≡ plane_length 8 layout) × (length cr.old ≡ plane_length 8 layout) }
@@ -65,17 +66,16 @@ pub fn rebuild_chroma(layout: Layout, m: usize, qp: u8, part: &[u8], cb: &mut [u
 {
     let cb_offset = record::inner::cb_offset(part);
     let cr_offset = record::inner::cr_offset(part);
-    let Quantizers::Legal(first, second) = both_quantizers(qp, cb_offset, cr_offset) else {
-        return;
-    };
+    let both = both_quantizers(qp, cb_offset, cr_offset).unwrap();
     let flags = picture::inner::flags_round(layout, m);
     let mode = record::inner::chroma_mode(part);
     let mut levels = [0i32; 128];
     record::inner::both_levels(part, &mut levels);
-    rebuild::rebuild_both(layout, m, flags, mode, first, second, &levels, cb, cr);
+    rebuild::rebuild_both(layout, m, flags, mode, both, &levels, cb, cr);
 }
 
 // Macroblock m's chroma into a record at the front of what is lent, and its rebuilt samples into both planes; answers how many bytes that were.
+// The offsets are never refused here, since both are in their range.
 pub fn code_chroma(
     layout: Layout,
     m: usize,
@@ -95,9 +95,7 @@ pub fn code_chroma(
     ensures file_after { file.new ≡ over (record_from_chroma layout qp cb_offset cr_offset (pair cb.now cr.now) m (pair cb_out.old cr_out.old)) file.old }
     ensures cr_out_after { pair cb_out.new cr_out.new ≡ coded_step_chroma layout qp cb_offset cr_offset (pair cb.now cr.now) m (pair cb_out.old cr_out.old) }
 {
-    let Quantizers::Legal(first, second) = both_quantizers(qp, cb_offset, cr_offset) else {
-        return 0;
-    };
+    let both = both_quantizers(qp, cb_offset, cr_offset).unwrap();
     let mut cb_prediction = [0u8; 64];
     let mut cr_prediction = [0u8; 64];
     let mode = code::predict_both(
@@ -114,8 +112,7 @@ pub fn code_chroma(
     code::code_both(
         layout,
         m,
-        first,
-        second,
+        both,
         cb,
         cr,
         &cb_prediction,

@@ -9,9 +9,11 @@ mod rebuild;
 
 use quantizer::Quantizer;
 
-// The quantizers of Cb and Cr, where both offsets are in their range.
+// The quantizers of Cb and Cr.
+// No ghost field says that both are legal: `both_of` (specs/Content) makes one of any two, so that the definition would have to hold a proof.
+// Not one type with `frame`'s `Offsets`: neither is public, and a generic pair would be, for two fields.
 #[derive(Clone, Copy)]
-pub(crate) enum Quantizers {
-    Legal(Quantizer, Quantizer),
-    Refused,
+pub(crate) struct Quantizers {
+    pub(crate) cb: Quantizer,
+    pub(crate) cr: Quantizer,
 }

@@ -10,10 +10,12 @@ ghost use Rattle.picture.specs.Whole.{flags_round, with_whole, whole_turn};
 ghost use Rattle.macroblock_chroma.specs.Fine.{in_range};
 ghost use Rattle.macroblock_chroma.specs.Rebuild.{samples_chroma};
 
+use crate::Quantizers;
 use picture::Layout;
 use quantizer::Quantizer;
 
 // The samples of a prediction and 64 levels in range, stored as those of macroblock m.
+#[tactic(auto, unfolding(crate::specs::Fine::in_range))]
 pub(crate) fn store_one(
     layout: Layout,
     m: usize,
@@ -27,7 +29,7 @@ pub(crate) fn store_one(
     ensures { plane.new ≡ with_whole 8 layout m (whole_samples 8 quantizer.qp prediction.now levels.now) plane.old }
 {
     let mut samples = [0u8; 64];
-    residual_whole::inner::rebuilt8(quantizer, prediction, levels, &mut samples);
+    residual_whole::inner::rebuilt(8, quantizer, prediction, levels, &mut samples);
     picture::inner::store_whole(plane, layout, 8, m, &samples);
 }
 
@@ -58,18 +60,18 @@ pub(crate) fn rebuild_both(
     m: usize,
     flags: u8,
     mode: u8,
-    first: Quantizer,
-    second: Quantizer,
+    both: Quantizers,
     levels: &[i32],
     cb: &mut [u8],
     cr: &mut [u8],
 )
-    requires among { (Among layout m 0) × (flags ≡ flags_round 8 layout m) × (permitted flags mode ≡ true) × (first.qp ≤ highest) × (second.qp ≤ highest) }
-    requires levels_len { (length levels.now ≡ 128) × (Each 32768 levels.now) × (in_range first.qp (take 64 levels.now) ≡ true) × (in_range second.qp (drop 64 levels.now) ≡ true) }
+    requires among { (Among layout m 0) × (flags ≡ flags_round 8 layout m) × (permitted flags mode ≡ true) × (both.cb.qp ≤ highest) × (both.cr.qp ≤ highest) }
+    requires levels_len { (length levels.now ≡ 128) × (Each 32768 levels.now) × (in_range both.cb.qp (take 64 levels.now) ≡ true) × (in_range both.cr.qp (drop 64 levels.now) ≡ true) }
     requires cb_len { (length cb.old ≡ plane_length 8 layout) × (length cr.old ≡ plane_length 8 layout) }
-    ensures cb_after { cb.new ≡ whole_turn 8 (samples_chroma layout first.qp mode (take 64 levels.now)) layout m cb.old }
-    ensures cr_after { cr.new ≡ whole_turn 8 (samples_chroma layout second.qp mode (drop 64 levels.now)) layout m cr.old }
+    ensures cb_after { cb.new ≡ whole_turn 8 (samples_chroma layout both.cb.qp mode (take 64 levels.now)) layout m cb.old }
+    ensures cr_after { cr.new ≡ whole_turn 8 (samples_chroma layout both.cr.qp mode (drop 64 levels.now)) layout m cr.old }
 {
-    rebuild_one(layout, m, flags, mode, first, &levels[0..64], cb);
-    rebuild_one(layout, m, flags, mode, second, &levels[64..128], cr);
+    let (cb_levels, cr_levels) = levels.split_at(64);
+    rebuild_one(layout, m, flags, mode, both.cb, cb_levels, cb);
+    rebuild_one(layout, m, flags, mode, both.cr, cr_levels, cr);
 }

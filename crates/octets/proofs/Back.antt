@@ -3,12 +3,10 @@
 --     number_level                     the bits of a level
 --     sum_own                          the sum at the end of a summed list holds
 -- Assumes nothing.
-use Rattle.std.proofs.Common.{◌≡◌, ℕ, ◌+◌, ◌-◌, ◌*◌, ◌<◌, true, List, ◌++◌, length, get_or, ℤ, pos, ◌∙◌, arith, length-append, take_at, get_or-append-add, w16, of_z, eq-eqb}
+use Rattle.std.proofs.Common.{◌≡◌, ℕ, zero, suc, ◌+◌, ◌-◌, ◌*◌, ◌<◌, true, List, [], ◌∷◌, ◌++◌, length, get_or, ℤ, pos, ◌∙◌, arith, length-append, take_at, get_or-append-add, w16, of_z, eq-eqb}
 use lib.ListN.{get_or-append}
-use Rattle.lists.proofs.Pairs.{get_d_pairs}
 use Rattle.octets.specs.Numbers.{bytes_of, number_at, level_bytes}
 use Rattle.octets.specs.Sum.{record_sum, summed, sum_holds}
-use Rattle.octets.proofs.Levels.{high_at, low_at, levels_by_two}
 
 -- ---- numbers in lists one behind the other
 
@@ -23,11 +21,12 @@ pub number_before : (a b : List ℕ) (k : ℕ) → k + 1 < length a → number_a
 number_before a b k h = rw (get_or-append a b 0 k (omega arith), get_or-append a b 0 (k + 1) h)
 
 pub number_level : (l : List ℤ) (k : ℕ) → k < length l → number_at (2 * k) (level_bytes l) ≡ of_z w16 (get_or l k (pos 0))
-number_level l k h =
-    let p = get_d_pairs (high_at l) (low_at l) (length l) k 0 0 h (omega arith) in
-    let q = get_d_pairs (high_at l) (low_at l) (length l) k 1 0 h (omega arith) in
-    let z : 2 * k + 0 ≡ 2 * k = omega arith in
-    rw (← (levels_by_two l)) (omega (arith, rw z at p, q))
+unfolding level_bytes
+number_level [] k h = absurd (omega arith)
+number_level (z ∷ l) zero h = omega arith
+number_level (z ∷ l) (suc k) h =
+    let e : 2 * suc k ≡ 2 + 2 * k = omega arith in
+    rw e (number_behind (bytes_of (of_z w16 z)) (level_bytes l) (2 * k) ∙ number_level l k (omega arith))
 
 -- ---- a record with its sum
 

@@ -1,24 +1,11 @@
 -- Modes in bytes.
---     shifted_up, masked, shifted_down     the code's shifts and masks
---     length_packed                        how many bytes there are
---     packed_back                          what is packed comes back
+--     length_packed     how many bytes there are
+--     packed_back       what is packed comes back
 -- Assumes nothing.
-use Rattle.std.proofs.Common.{◌≡◌, ℕ, ◌+◌, ◌*◌, ◌/◌, ◌%◌, ◌<◌, Bool, true, false, cond, eqb, List, length, get_or, refl, ap, ◌∙◌, arith, eq-eqb, ne_eqb, eqb-true}
+use Rattle.std.proofs.Common.{◌≡◌, ℕ, ◌+◌, ◌*◌, ◌/◌, ◌%◌, ◌<◌, Bool, true, false, cond, eqb, List, length, get_or, refl, ap, ◌∙◌, arith, eqb-true}
 use borrow.Author.Tests.{eqb-false}
-use lib.Bits.{bit_and, bit_or, and_mask, or_shifted_r}
 use Rattle.lists.proofs.Tab.{length_tab, get_d_tab}
 use Rattle.octets.specs.Modes.{paired, packed, unpaired}
-
-pub shifted_up : (low high : ℕ) → low < 16 → high < 16 → bit_or low (high * 16 % 256) ≡ paired low high
-shifted_up low high h k =
-    let e : high * 16 % 256 ≡ high * 16 = omega arith in
-    rw e (or_shifted_r high 4 low h)
-
-pub masked : (block byte : ℕ) → block % 2 ≡ 0 → bit_and byte 15 ≡ unpaired block byte
-masked block byte e = rw (eq-eqb (block % 2) 0 e) (and_mask byte 4)
-
-pub shifted_down : (block byte : ℕ) → (block % 2 ≡ 0 → ⊥) → byte / 16 ≡ unpaired block byte
-shifted_down block byte e = rw (ne_eqb (block % 2) 0 e)
 
 module _ (modes : List ℕ) where
   -- byte k

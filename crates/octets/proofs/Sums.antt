@@ -1,14 +1,20 @@
 -- Laws of the sum of a list.
---     sum_append, sum_take     of two lists one behind the other; of one element more
+--     sum_append, sum_folded     of two lists one behind the other; modulo 65536, as the code adds
 -- Assumes nothing.
-use Rattle.std.proofs.Common.{◌≡◌, ℕ, ◌+◌, ◌<◌, List, [], ◌∷◌, ◌++◌, length, get_or, take, add-one, arith, take-suc}
-use Rattle.octets.specs.Sum.{sum_of}
+use Rattle.std.proofs.Common.{◌≡◌, ℕ, ◌+◌, ◌%◌, ◌<◌, List, [], ◌∷◌, ◌++◌, ◌∙◌, arith}
+use Rattle.std.specs.List.{fold}
+use Rattle.octets.specs.Sum.{sum_of, record_sum}
 
 pub sum_append : (xs ys : List ℕ) → sum_of (xs ++ ys) ≡ sum_of xs + sum_of ys
 unfolding sum_of
 sum_append [] ys = omega arith
 sum_append (x ∷ xs) ys = omega (arith, sum_append xs ys)
 
-pub sum_take : (xs : List ℕ) (i : ℕ) → i < length xs → sum_of (take (i + 1) xs) ≡ sum_of (take i xs) + get_or xs i 0
+-- added one by one, modulo 65536 each time
+folded_from : (xs : List ℕ) (a : ℕ) → a < 65536 → fold (λ s b. (s + b) % 65536) a xs ≡ (a + sum_of xs) % 65536
 unfolding sum_of
-sum_take xs i h = rw (add-one, take-suc xs i 0) (omega (arith, sum_append (take i xs) (get_or xs i 0 ∷ [])))
+folded_from [] a h = omega arith
+folded_from (x ∷ xs) a h = omega (arith, folded_from xs ((a + x) % 65536) (omega arith))
+
+pub sum_folded : (xs : List ℕ) → fold (λ s b. (s + b) % 65536) 0 xs ≡ record_sum xs
+sum_folded xs = folded_from xs 0 (omega arith) ∙ omega arith

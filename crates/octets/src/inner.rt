@@ -6,53 +6,24 @@ ghost use Rattle.octets.specs.Modes.{paired, packed, unpaired};
 ghost use Rattle.octets.specs.Numbers.{number_at, level_bytes, level_at, signed_byte, signed_in};
 ghost use Rattle.octets.specs.Sum.{record_sum, summed, sum_holds};
 
-// A byte, and that it is one.
-fn wide(byte: u8) -> u16
-    ensures { (result ≡ byte) × (result < 256) }
-{
-    byte as u16
-}
+use std::array;
 
 // The number of two bytes, high byte first.
+// A place beside the bytes, here and in `record`, `plane`, `frame` and `inspection`: the paper counts places from a file's start.
 pub fn number_at(bytes: &[u8], place: usize) -> u16
     requires { place + 1 < length bytes.now }
     ensures { result ≡ number_at place bytes.now }
 {
-    wide(bytes[place]) * 256 + wide(bytes[place + 1])
+    u16::from_be_bytes([bytes[place], bytes[place + 1]])
 }
 
-// A level as the number of its 16 bits.
-fn bits_of(level: i32) -> u16
-    requires { FitsSigned w16 level }
-    ensures { result ≡ of_z w16 level }
-{
-    if level < 0 {
-        (level + 65536) as u16
-    } else {
-        level as u16
-    }
-}
-
-// The level of 16 bits.
-fn level_of(bits: u16) -> i32
-    ensures { result ≡ to_z w16 bits }
-{
-    if bits < 32768 {
-        bits as i32
-    } else {
-        bits as i32 - 65536
-    }
-}
-
-// Levels, of whatever number, into two bytes each.
+// Levels, of whatever number, into two bytes each. By places: of a `zip` with `chunks_exact_mut` the loop's invariant does not see what `out` holds (tried).
 pub fn write_levels(levels: &[i32], out: &mut [u8])
     requires { (length out.old ≡ 2 * length levels.now) × ((k : ℕ) → FitsSigned w16 (slice_index_or levels.now k (pos 0))) }
     ensures { out.new ≡ level_bytes levels.now }
 {
-    for k in 0usize..levels.len() {
-        let bits = bits_of(levels[k]);
-        out[2 * k] = (bits / 256) as u8;
-        out[2 * k + 1] = (bits % 256) as u8;
+    for (k, level) in levels.iter().enumerate() {
+        out[2 * k..2 * k + 2].copy_from_slice(&(*level as i16).to_be_bytes());
     }
 }
 
@@ -61,26 +32,22 @@ pub fn level_at(part: &[u8], front: usize, i: usize) -> i32
     requires { front + 2 * i + 1 < length part.now }
     ensures { result ≡ level_at (front + 2 * i) part.now }
 {
-    level_of(number_at(part, front + 2 * i))
+    i32::from(number_at(part, front + 2 * i).cast_signed())
 }
 
-// A number of eight signed bits as a byte: the low one of its 16 bits.
+// A number of eight signed bits as a byte.
 pub fn signed_byte(number: i32) -> u8
     requires { FitsSigned w8 number }
     ensures { result ≡ signed_byte number }
 {
-    (bits_of(number) % 256) as u8
+    (number as i8).cast_unsigned()
 }
 
-// The number that a byte of eight signed bits is: a negative one has a high byte of ones above it.
+// The number that a byte of eight signed bits is.
 pub fn signed_in(byte: u8) -> i32
     ensures { result ≡ signed_in byte }
 {
-    if byte < 128 {
-        level_of(wide(byte))
-    } else {
-        level_of(wide(byte) + 65280)
-    }
+    i32::from(byte.cast_signed())
 }
 
 // Two modes in a byte.
@@ -96,11 +63,7 @@ pub fn packed(modes: [u8; 16]) -> [u8; 8]
     requires { (k : ℕ) → slice_index modes k < 16 }
     ensures { result ≡ packed 8 modes }
 {
-    let mut out = [0u8; 8];
-    for k in 0usize..8 {
-        out[k] = pack(modes[2 * k], modes[2 * k + 1]);
-    }
-    out
+    array::from_fn(|k| pack(modes[2 * k], modes[2 * k + 1]))
 }
 
 // The mode of a block, of the byte that holds it.
@@ -114,16 +77,13 @@ pub fn unpack(byte: u8, block: usize) -> u8
 fn sum(bytes: &[u8]) -> u16
     ensures { result ≡ record_sum bytes.now }
 {
-    let mut sum: u16 = 0;
-    let mut i = 0;
-    while i < bytes.len() {
-        sum = std::num::wrapping_add_u16(sum, bytes[i] as u16);
-        i += 1;
-    }
-    sum
+    bytes
+        .iter()
+        .fold(0, |sum, byte| sum.wrapping_add(u16::from(*byte)))
 }
 
 // Whether the last two bytes are the sum of the earlier ones.
+#[tactic(auto, unfolding(crate::specs::Sum::sum_holds))]
 pub fn sum_holds(part: &[u8]) -> bool
     requires { 2 ≤ length part.now }
     ensures { result ≡ sum_holds part.now }
@@ -138,7 +98,6 @@ pub fn write_sum(part: &mut [u8])
     ensures { part.new ≡ summed (take (length part.old - 2) part.old) }
 {
     let n = part.len() - 2;
-    let s = sum(&part[..n]);
-    part[n] = (s / 256) as u8;
-    part[n + 1] = (s % 256) as u8;
+    let sum = sum(&part[..n]);
+    part[n..].copy_from_slice(&sum.to_be_bytes());
 }

@@ -3,6 +3,7 @@
 --     seen               what a neighbour's presence says of the block
 --     corner_place, above_place, right_place, left_place     a neighbour by its place
 --     in_groups, gathered_parts     the neighbours, group by group; by their places
+--     listed             a list of what was read of each group
 -- Assumes nothing.
 use mathlib.Core.Path.{◌≡◌, refl, ◌∙◌}
 use mathlib.Core.Bool.{Bool, true, false, cond}
@@ -47,6 +48,12 @@ pub in_groups : (l : Layout) (m b : ℕ) (plane : List ℕ) → gathered 4 l m b
     ++ tab 4 (λ i. neighbour 4 l m b plane (9 + i))
 unfolding gathered tab
 in_groups l m b plane = refl
+
+-- a list of four groups is the list of what was read of each
+pub listed : {corner c : ℕ} {above right left out : List ℕ} (x y z : ℕ → ℕ) → out ≡ (corner ∷ []) ++ tab 4 (λ k. get_or above k 0) ++ tab 4 (λ k. get_or right k 0) ++ tab 4 (λ k. get_or left k 0)
+    → corner ≡ c → above ≡ tab 4 x → right ≡ tab 4 y → left ≡ tab 4 z → out ≡ (c ∷ []) ++ tab 4 x ++ tab 4 y ++ tab 4 z
+unfolding tab
+listed x y z o e f g h = rw (o, e, f, g, h)
 
 module _ {l : Layout} {m b : ℕ} (a : Among l m b) where
   -- a present group has a row above, or a column at the left

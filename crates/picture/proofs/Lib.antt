@@ -5,9 +5,11 @@ pub mod Both
 pub mod Byte
 pub mod Bytes
 pub mod Macroblocks
+pub mod Nearby
 pub mod OneSlice
 pub mod Over
 pub mod Owner
+pub mod Pasted
 pub mod Plane
 pub mod Presence
 pub mod Round

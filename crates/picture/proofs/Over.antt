@@ -15,7 +15,7 @@ use mathlib.Core.Path.{◌≡◌, refl, sym, ap, subst, ◌∙◌}
 use mathlib.Core.Bool.{Bool, true, false, cond, ◌&&◌}
 use mathlib.Core.List.{List}
 use Prim.Native.Nat.{ℕ, zero, suc, ◌+◌, ◌*◌, ◌-◌, ◌/◌, ◌%◌, ◌<◌, ◌≤◌}
-use native.Mathlib.Nat.{mod-lt, mul_comm, mul-le-mul, zero-mul, div-add-mod'}
+use native.Mathlib.Nat.{mod-lt, mul_comm, mul-le-mul, div-add-mod'}
 use native.Mathlib.Omega.{arith}
 use borrow.Author.Tests.{eqb-true, eqb-false, ltb-true, ltb-false, le-leb, lt-leb}
 use lib.Arith.{digits_div, digits_mod}
@@ -64,14 +64,6 @@ module _ (b : ℕ) (below : b < 16) where
 
   pub reach_own_left : (t : Bool) → 0 < column_in b → Behind t 4 16 (own_place b) 1 256
   reach_own_left t u = record { before = λ e. omega arith; within = λ e. omega (arith, column_four, row_four) }
-
--- a product that is something has two factors that are
-pub both_some : (x y : ℕ) → 0 < x * y → (0 < x) × (0 < y)
-both_some x y h = (by_case x y h (eqb x 0) refl, by_case y x (omega (arith, mul_comm x y)) (eqb y 0) refl)
-  where
-    by_case : (x y : ℕ) → 0 < x * y → (t : Bool) → eqb x 0 ≡ t → 0 < x
-    by_case x y h true e = let z : x * y ≡ 0 = ap (λ (n : ℕ). n * y) (eqb-true x 0 e) ∙ zero-mul y in absurd (omega arith)
-    by_case x y h false e = let n = eqb-false x 0 e in omega arith
 
 -- ---- the neighbours of its blocks
 

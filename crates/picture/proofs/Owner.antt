@@ -8,7 +8,7 @@
 use mathlib.Core.Path.{◌≡◌, refl, sym, ap, ◌∙◌}
 use mathlib.Core.List.{List}
 use Prim.Native.Nat.{ℕ, ◌+◌, ◌*◌, ◌-◌, ◌/◌, ◌%◌, ◌<◌, ◌≤◌}
-use native.Mathlib.Nat.{mod-lt, div-add-mod', div-lt_iff_lt-mul}
+use native.Mathlib.Nat.{mod-lt, div-add-mod'}
 use native.Mathlib.Omega.{arith}
 use lib.Arith.{digits_lt, digits_div, digits_mod}
 use lib.ListN.{length, get_or}
@@ -99,9 +99,6 @@ module _ (l : Layout) (some : 0 < l.width) where
 
   pub column_lt : (i : ℕ) → i % stride 16 l < stride 16 l
   column_lt i = mod-lt i (let z : 0 < 16 * l.width = omega arith in z)
-
-  pub row_lt : (i : ℕ) → i < plane_length 16 l → i / stride 16 l < 16 * l.height
-  row_lt i h = (div-lt_iff_lt-mul (let z : 0 < 16 * l.width = omega arith in z)).1 (omega arith)
 
   module _ (n m b : ℕ) (among : m < l.width * l.height) (start : Starts n b) (block plane : List ℕ) where
     pub read_back : length block ≡ n * n → length plane ≡ plane_length 16 l → block_of n l m b (with_block n l m b block plane) ≡ block

@@ -1,7 +1,8 @@
 -- How the code reads and stores a macroblock of s by s samples, row by row, and reaches its neighbours.
 --     storing_run, stored_in_turn    a loop that stores a run of elements at a turn; at all places in turn
---     stride_fit, plane_fit, whole_spot_in, row_in     no place of such a plane is too large; the macroblock's places, counted from its first, lie in it
---     rows_room, row_read, row_stored     one row, read and stored
+--     whole_spot_in     the macroblock's places, counted from its first, lie in the plane
+--     no_rows, rows_room, row_read, row_stored     no row yet; one row, read and stored
+--     row_at     the row of a turn lies in the plane, and among the macroblock's own samples
 --     reach_round_corner, reach_round_above, reach_round_left     a group of neighbours that is present lies in the plane
 --     corner_run, above_run, left_run     the groups stored one behind the other
 -- Assumes nothing.
@@ -9,7 +10,7 @@ use mathlib.Core.Path.{◌≡◌, refl, sym, ◌∙◌}
 use mathlib.Core.Bool.{Bool, true, false, cond, ◌&&◌}
 use mathlib.Core.List.{List}
 use Prim.Native.Nat.{ℕ, zero, suc, ◌+◌, ◌*◌, ◌-◌, ◌/◌, ◌%◌, ◌<◌, ◌≤◌}
-use native.Mathlib.Nat.{mul-le-mul, mul-le-mul_right, mul-lt-mul_of_pos_left}
+use native.Mathlib.Nat.{mul-le-mul_right, mul-lt-mul_of_pos_left}
 use native.Mathlib.Omega.{arith}
 use borrow.Author.Tests.{ltb-true, le-leb, lt-leb}
 use lib.Arith.{digits_div, digits_mod}
@@ -18,14 +19,14 @@ use lib.ListN.{length, get_or}
 use Rattle.lists.specs.Stores.{stores}
 use Rattle.lists.specs.Tab.{tab, in_raster}
 use Rattle.lists.proofs.Every.{both_true}
-use Rattle.lists.proofs.Stores.{Storing, storing_more, storing_done, stores_in_turn}
+use Rattle.lists.proofs.Stores.{Storing, storing_none, storing_more, storing_done, stores_in_turn}
 use Rattle.picture.specs.declared.Layout.{Layout}
-use Rattle.picture.specs.Order.{Among, count_of}
+use Rattle.picture.specs.Order.{Among}
 use Rattle.picture.specs.Plane.{stride, plane_length}
 use Rattle.picture.specs.Reach.{Reaches}
 use Rattle.picture.specs.Whole.{whole_column, whole_row, round_column, round_row, present_round, round_sample}
 use Rattle.picture.proofs.Byte.{in_slice}
-use Rattle.picture.proofs.Plane.{within, samples_fit, from_first}
+use Rattle.picture.proofs.Plane.{within, from_first}
 use Rattle.picture.proofs.Presence.{row_up}
 use Rattle.picture.proofs.Round.{room_whole, round_above, round_left, round_corner}
 
@@ -52,6 +53,9 @@ pub stored_in_turn : {A : Type 0} {v : ℕ → A} {n : ℕ} {d₀ d : List A} {k
 stored_in_turn {A} {v} {n} {d₀} g h e = storing_done (λ j. j) v n g h ∙ coe 0 1 (i. stores (e i) (λ j. j) v d₀ ≡ tab (e i) v) (stores_in_turn v d₀)
 
 -- ---- one row
+
+pub no_rows : {A : Type 0} (p : ℕ → ℕ) (v : ℕ → A) (n s : ℕ) (d : List A) → Storing p v n d d (0 * s)
+no_rows p v n s d = let z : 0 * s ≡ 0 = omega arith in rw z (storing_none p v n d)
 
 module _ (s : ℕ) {y : ℕ} (below : y < s) where
   next_row : y * s + s ≡ (y + 1) * s
@@ -84,12 +88,6 @@ module _ (s : ℕ) {y : ℕ} (below : y < s) where
 -- ---- the macroblock's places, counted from its first
 
 module _ {l : Layout} {m : ℕ} (a : Among l m 0) (s : ℕ) (small : 0 < s) (most : s ≤ 16) where
-  pub stride_fit : s * l.width ≤ 2048
-  stride_fit = omega (arith, a.sound.wide, mul-le-mul_right l.width most)
-
-  pub plane_fit : plane_length s l ≤ 4194304
-  plane_fit = omega (arith, samples_fit a.sound, mul-le-mul_right (count_of l) (mul-le-mul most most))
-
   abbrev pub whole_place : ℕ
   whole_place = whole_row s l m * stride s l + whole_column s l m
 
@@ -97,9 +95,9 @@ module _ {l : Layout} {m : ℕ} (a : Among l m 0) (s : ℕ) (small : 0 < s) (mos
   whole_spot_in i j hi hj =
       rw (from_first (stride s l) (whole_column s l m) (whole_row s l m) i j) at (within (room_whole l a.sound.some m a.macroblock s) i j hi hj)
 
-  -- a row lies in the plane
-  pub row_in : (y : ℕ) → y < s → whole_place + y * stride s l + s ≤ plane_length s l
-  row_in y h = omega (arith, whole_spot_in (s - 1) y (omega arith) h)
+  -- row y lies in the plane, and among the macroblock's own samples
+  pub row_at : {first : ℕ} → first ≡ whole_place → {long own : ℕ} → long ≡ plane_length s l → own ≡ s * s → (y : ℕ) → y < s → (first + y * stride s l + s ≤ long) × (y * s + s ≤ own)
+  row_at e p o y h = (rw (e, p) (omega (arith, whole_spot_in (s - 1) y (omega arith) h)), rw o (rows_room s h))
 
   -- ---- the neighbours
 

@@ -20,7 +20,6 @@ use lib.Dec.{eqb}
 use lib.ListN.{length}
 use Rattle.lists.specs.Chain.{Verdict, pass, stop, chain, RefusedWith}
 use Rattle.lists.proofs.Chain.{same_stop, chain_exactly_if, chain_passed, chain_refused}
-use Rattle.refusal.specs.declared.Answer.TheVariants.{Refused}
 use Rattle.refusal.specs.declared.Fault.{Fault}
 use Rattle.refusal.specs.declared.Fault.TheVariants.{CutMark, Mark, CutRest, Number, Sum}
 use Rattle.refusal.specs.declared.Refusal.{Refusal}
@@ -45,6 +44,7 @@ use Rattle.plane.specs.Decode.{luma_in, chroma_in, chroma_place, forms_tests, ma
 use Rattle.plane.proofs.Entry.{plane_short, body_rest}
 use Rattle.plane.proofs.decode_plane.Kinds as call
 use Rattle.plane.proofs.decode_plane.Reads as reads
+use Rattle.std.specs.Prelude.{Err}
 
 -- of one macroblock's records, luma's and chroma's, the refusals are those of content; and so of all
 records_kind : (l : Layout) (start : ℕ) (file : List ℕ) (m : ℕ) → all_of is_content (macroblock_tests l start file m) ≡ true
@@ -225,20 +225,20 @@ module _ (κs : Lfts 2) (a : Dens κs call.ps) (r : (res_t call.r κs).Denot) (e
   abbrev plane : List ℕ
   plane = a.1.0.now
 
-  answered : (t : Refusal) → (r ≡ Refused t) ↔ (chain (decode_tests file plane) ≡ stop t)
-  answered t = (λ is. sym (says_same p.says) ∙ ap said is, λ v. same_answer r (Refused t) (says_same p.says ∙ v))
+  answered : (t : Refusal) → (r ≡ Err t) ↔ (chain (decode_tests file plane) ≡ stop t)
+  answered t = (λ is. sym (says_same p.says) ∙ ap said is, λ v. same_answer r (Err t) (says_same p.says ∙ v))
 
-  by_tests : (t : Refusal) {B : Type 0} → (chain (decode_tests file plane) ≡ stop t) ↔ B → (r ≡ Refused t) ↔ B
+  by_tests : (t : Refusal) {B : Type 0} → (chain (decode_tests file plane) ≡ stop t) ↔ B → (r ≡ Err t) ↔ B
   by_tests t h = (λ is. h.0 ((answered t).0 is), λ b. (answered t).1 (h.1 b))
 
-  pub mark_exactly_if : (place : ℕ) → (r ≡ Refused (refusal.Mark place)) ↔ MarkRefused file plane place
+  pub mark_exactly_if : (place : ℕ) → (r ≡ Err (refusal.Mark place)) ↔ MarkRefused file plane place
   mark_exactly_if place = by_tests (refusal.Mark place) (mark_told file plane place)
 
-  pub number_exactly_if : (place : ℕ) → (r ≡ Refused (refusal.Number place)) ↔ NumberRefused file plane place
+  pub number_exactly_if : (place : ℕ) → (r ≡ Err (refusal.Number place)) ↔ NumberRefused file plane place
   number_exactly_if place = by_tests (refusal.Number place) (number_told file plane place)
 
-  pub sum_exactly_if : (place : ℕ) → (r ≡ Refused (refusal.Sum place)) ↔ SumRefused file plane place
+  pub sum_exactly_if : (place : ℕ) → (r ≡ Err (refusal.Sum place)) ↔ SumRefused file plane place
   sum_exactly_if place = by_tests (refusal.Sum place) (sum_told file plane place)
 
-  pub form_exactly_if : (place : ℕ) → (r ≡ Refused (refusal.Form place)) ↔ FormRefused file plane place
+  pub form_exactly_if : (place : ℕ) → (r ≡ Err (refusal.Form place)) ↔ FormRefused file plane place
   form_exactly_if place = by_tests (refusal.Form place) (form_told file plane place)

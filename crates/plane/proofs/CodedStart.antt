@@ -13,8 +13,8 @@ use Rattle.picture.proofs.Steps.{picture_start_has_no_value, made_start_has_no_v
 use Rattle.macroblock.specs.Code.{record_from, coded_step}
 use Rattle.macroblock.proofs.Looks.{coded_step_law, record_looks}
 use Rattle.plane.specs.Code.{head_for, plane_before, plane_from, file_from, CodesPlane}
-use Rattle.plane.specs.declared.CodedPlane.TheVariants.{Bytes}
 use Rattle.plane.proofs.CodedOutcome.{outcome}
+use Rattle.std.specs.Prelude.{Ok}
 
 module _ (l : Layout) (some : 0 < l.width) (qp : ℕ) (original p q : List ℕ) (this : length p ≡ plane_length 16 l) (that : length q ≡ plane_length 16 l) where
   same_plane : plane_from l qp original p ≡ plane_from l qp original q
@@ -33,8 +33,8 @@ module _ (l : Layout) (some : 0 < l.width) (qp : ℕ) (original p q : List ℕ) 
 -- ---- by the contract
 
 pub code_plane_entry_has_no_value : (width height rows qp : ℕ) (plane file rebuilt other-file other-rebuilt : List ℕ) (used other-used : ℕ) (file' rebuilt' file'' rebuilt'' : List ℕ)
-    → CodesPlane width height rows qp plane file rebuilt (Bytes used) file' rebuilt'
-    → CodesPlane width height rows qp plane other-file other-rebuilt (Bytes other-used) file'' rebuilt''
+    → CodesPlane width height rows qp plane file rebuilt (Ok used) file' rebuilt'
+    → CodesPlane width height rows qp plane other-file other-rebuilt (Ok other-used) file'' rebuilt''
     → (used ≡ other-used) × (take used file' ≡ take other-used file'') × (rebuilt' ≡ rebuilt'')
 code_plane_entry_has_no_value width height rows qp plane file rebuilt other-file other-rebuilt used other-used file' rebuilt' file'' rebuilt'' c d =
     let x = outcome width height rows qp plane file rebuilt used file' rebuilt' c in

@@ -1,10 +1,11 @@
 -- What the tests of decoding come to.
 --     plane_short, body_rest                   what is tested behind the head
 --     records_passed                           of the records the form passed, and the content
---     body_refused, body_done                  what the code leaves behind the head
+--     body_done                                what the code leaves behind the head
 --     macroblocks_some                         a size that holds has macroblocks
 --     head_read, head_refused, decodes_by     what a head tells, and the tests behind it
 -- Assumes nothing.
+use Rattle.refusal.specs.Number.{said}
 use mathlib.Core.Path.{◌≡◌, sym, ap, ◌∙◌}
 use mathlib.Core.Bool.{true}
 use mathlib.Core.List.{List}
@@ -16,15 +17,10 @@ use lib.ListN.{length}
 use Rattle.lists.specs.Chain.{Verdict, pass, stop, chain, written}
 use Rattle.lists.proofs.Chain.{chain_passed, chain_refused}
 use Rattle.lists.proofs.Chains.{chain_front, chain_behind}
-use Rattle.refusal.specs.declared.Answer.{Answer}
-use Rattle.refusal.specs.declared.Answer.TheVariants.{Done, Refused}
 use Rattle.refusal.specs.declared.Refusal.{Refusal}
 use Rattle.refusal.specs.declared.Refusal.TheVariants as refusal
 use Rattle.refusal.proofs.Same.{says, says_same}
 use Rattle.head.specs.declared.Head.{Head}
-use Rattle.head.specs.declared.Head.TheVariants.{Legal}
-use Rattle.head.specs.declared.Head.TheVariants as head_variants
-use Rattle.head.specs.Entry as head
 use Rattle.head.specs.Entry.{ReadsHead, head_tests, long_at, size_holds, rows_hold}
 use Rattle.head.proofs.Heads.{size_tells, rows_of_law, head_told}
 use Rattle.picture.specs.declared.Layout.{Layout}
@@ -32,6 +28,7 @@ use Rattle.picture.specs.Order.{Sound}
 use Rattle.picture.specs.Plane.{plane_length}
 use Rattle.plane.specs.Code.{in_slices}
 use Rattle.plane.specs.Decode.{luma_in, forms_tests, contents_tests, records_tests, body_tests, layout_in, decoded, decoded_plane, DecodesBody, Decodes}
+use Rattle.std.specs.Prelude.{Err, Ok, Result}
 
 module _ (l : Layout) (place : ℕ) (file plane : List ℕ) where
   pub plane_short : (length plane ≡ plane_length 16 l → ⊥) → chain (body_tests l place file plane) ≡ stop refusal.Length
@@ -47,10 +44,7 @@ module _ (l : Layout) (place : ℕ) (file plane : List ℕ) where
 -- ---- what the code leaves behind the head
 
 module _ (l : Layout) (place : ℕ) (file plane : List ℕ) where
-  pub body_refused : {r : Refusal} → chain (body_tests l place file plane) ≡ stop r → DecodesBody l place file plane (Refused r) plane
-  body_refused e = record { says = sym e; wrote = ap (λ (v : Verdict Refusal). written v (decoded l (luma_in file place)) plane) (sym e) }
-
-  pub body_done : {after : List ℕ} → chain (body_tests l place file plane) ≡ pass → after ≡ decoded l (luma_in file place) → DecodesBody l place file plane Done after
+  pub body_done : {after : List ℕ} → chain (body_tests l place file plane) ≡ pass → after ≡ decoded l (luma_in file place) → DecodesBody l place file plane (Ok tt) after
   body_done e q = record { says = sym e; wrote = q ∙ ap (λ (v : Verdict Refusal). written v (decoded l (luma_in file place)) plane) (sym e) }
 
 -- ---- the head
@@ -69,9 +63,9 @@ pub record LegalHead (file : List ℕ) (l : Layout) (long : ℕ) : Type 0 where
   pub ends : long ≡ long_at file
   pub sound : Sound l
 
-pub head_read : (file : List ℕ) {h : Head} {width height rows long : ℕ} → ReadsHead file h → h ≡ Legal width height rows long
-    → LegalHead file (record { width = width; height = height; rows = rows }) long
-head_read file {h} {width} {height} {rows} {long} p e =
+pub head_read : (file : List ℕ) {h : Result Head Refusal} {it : Head} → ReadsHead file h → h ≡ Ok it
+    → LegalHead file (record { width = it.width; height = it.height; rows = it.rows }) it.long
+head_read file {h} {it} p e =
     let t = head_told file p e in
     record {
       passed = t.passed;
@@ -81,12 +75,12 @@ head_read file {h} {width} {height} {rows} {long} p e =
     }
 
 module _ (file before : List ℕ) where
-  pub head_refused : {h : Head} {r : Refusal} → ReadsHead file h → h ≡ head_variants.Refused r → Decodes file before (Refused r) before
+  pub head_refused : {h : Result Head Refusal} {r : Refusal} → ReadsHead file h → h ≡ Err r → Decodes file before (Err r) before
   head_refused {h} {r} p e =
-      let v = chain_refused (head_tests file) (body_tests (layout_in file) (long_at file) file before) r (sym (says_same p.says) ∙ ap head.said_head e) in
+      let v = chain_refused (head_tests file) (body_tests (layout_in file) (long_at file) file before) r (sym (says_same p.says) ∙ ap said e) in
       record { says = says (sym v); wrote = ap (λ (w : Verdict Refusal). written w (decoded_plane file) before) (sym v) }
 
-  pub decodes_by : {l : Layout} {long : ℕ} {r : Answer} {after : List ℕ} → LegalHead file l long → DecodesBody l long file before r after → Decodes file before r after
+  pub decodes_by : {l : Layout} {long : ℕ} {r : Result (Unit {0}) Refusal} {after : List ℕ} → LegalHead file l long → DecodesBody l long file before r after → Decodes file before r after
   decodes_by {l} {long} {r} {after} h d =
       let v = chain_passed (head_tests file) (body_tests (layout_in file) (long_at file) file before) h.passed in
       let x : DecodesBody (layout_in file) (long_at file) file before r after = coe 0 1 (i. DecodesBody (h.tells i) (h.ends i) file before r after) d in

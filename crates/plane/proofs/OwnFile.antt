@@ -14,7 +14,6 @@ use Rattle.lists.specs.Parts.{parts}
 use Rattle.refusal.specs.declared.Refusal.{Refusal}
 use Rattle.refusal.proofs.Faults.{false_not_true}
 use Rattle.refusal.proofs.Same.{says}
-use Rattle.head.specs.declared.Head.TheVariants.{Legal}
 use Rattle.head.specs.Entry.{ReadsHead, head_tests, long_at, width_at, height_at, rows_at, size_holds, rows_hold}
 use Rattle.head.specs.Heads.{head_length}
 use Rattle.head.proofs.Back.{length_head, width_back, height_back, rows_back, long_back, head_own}
@@ -27,6 +26,7 @@ use Rattle.picture.specs.Order.{count_of}
 use Rattle.plane.specs.Code.{in_slices, head_for, behind_head}
 use Rattle.plane.specs.Decode.{record_in, luma_in, chroma_in, forms_tests}
 use Rattle.plane.proofs.Entry.{LegalHead, head_read}
+use Rattle.std.specs.Prelude.{Ok}
 
 module _ (l : Layout) (b : Bool) (made : ℕ → List ℕ) (own : (k : ℕ) → k < per_macroblock b * count_of l → Own (expected_in b k) (made k)) where
   abbrev all : ℕ
@@ -83,7 +83,7 @@ pub file_head : (width height rows : ℕ) (records : List ℕ) → size_holds wi
 file_head width height rows records size sliced =
     let file = head_for (in_slices width height rows) ++ records in
     let e : chain (head_tests file) ≡ pass = head_own width height rows records size sliced in
-    let reads : ReadsHead file (Legal width height rows (head_length height rows)) = record {
+    let reads : ReadsHead file (Ok (record { width = width; height = height; rows = rows; long = head_length height rows })) = record {
       says = says (sym e);
       width = sym (ap (λ (v : Verdict Refusal). written v (width_at file) 0) e ∙ width_back width height rows records);
       height = sym (ap (λ (v : Verdict Refusal). written v (height_at file) 0) e ∙ height_back width height rows records);

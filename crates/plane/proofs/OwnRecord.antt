@@ -23,9 +23,9 @@ use Rattle.macroblock.specs.Code.{record_from, coded_step}
 use Rattle.macroblock.proofs.Own.{step_own, record_own}
 use Rattle.plane.specs.Decode.{cleared}
 use Rattle.plane.specs.Code.{in_slices, head_for, behind_head, plane_before, file_from, CodesPlane}
-use Rattle.plane.specs.declared.CodedPlane.TheVariants.{Bytes}
 use Rattle.plane.proofs.CodedFile.{record_on, file_to, own_on}
 use Rattle.plane.proofs.CodedOutcome.{outcome}
+use Rattle.std.specs.Prelude.{Ok}
 
 -- two planes that agree in all macroblocks before m
 abbrev pub SameTo : Layout → (m : ℕ) → (p q : List ℕ) → Type 0
@@ -65,8 +65,8 @@ module _ (l : Layout) (qp : ℕ) (start p q : List ℕ) (m : ℕ) (same : SameTo
 
 -- the files of two planes that agree in all macroblocks before m, each in the bytes used: where record m begins, and what stands before it
 module _ (width height rows qp : ℕ) (p q file-p rebuilt-p file-q rebuilt-q : List ℕ) (used-p used-q : ℕ) (file-p' rebuilt-p' file-q' rebuilt-q' : List ℕ)
-    (coded-p : CodesPlane width height rows qp p file-p rebuilt-p (Bytes used-p) file-p' rebuilt-p')
-    (coded-q : CodesPlane width height rows qp q file-q rebuilt-q (Bytes used-q) file-q' rebuilt-q')
+    (coded-p : CodesPlane width height rows qp p file-p rebuilt-p (Ok used-p) file-p' rebuilt-p')
+    (coded-q : CodesPlane width height rows qp q file-q rebuilt-q (Ok used-q) file-q' rebuilt-q')
   where
     pub own_record_coded : (m : ℕ) → m ≤ width * height → SameTo (in_slices width height rows) m p q
         → (record_place m (take used-p file-p') (behind_head (in_slices width height rows)) ≡ record_place m (take used-q file-q') (behind_head (in_slices width height rows)))

@@ -30,10 +30,11 @@ use Rattle.macroblock4.specs.Inputs.{light_corner, beside_at, beside}
 use Rattle.macroblock.proofs.Witness.{grey_step, corner_record}
 use Rattle.plane.specs.Decode.{cleared, record_in}
 use Rattle.plane.specs.Code.{in_slices, behind_head, plane_before, file_from, coded_file, CodesPlane}
-use Rattle.plane.specs.declared.CodedPlane.{CodedPlane}
 use Rattle.plane.proofs.CodedFile.{record_on, own_on}
 use Rattle.plane.proofs.OwnRecord.{SameTo, same_records}
 use Rattle.plane.proofs.Trip.{own_record_in}
+use Rattle.std.specs.Prelude.{Result}
+use Rattle.refusal.specs.declared.Refusal.{Refusal}
 
 -- a place at the left
 left_at : (right row column : ℕ) → row < 16 → column < 16 → get_or (beside 128 right) (row * 32 + column) 0 ≡ 128
@@ -63,7 +64,7 @@ left_record = same_records (in_slices 2 1 1) 28 (cleared 512) (beside 128 128) (
 -- ---- what is left where the coder has written
 
 -- a macroblock of 138 at QP 28, in areas full of 7, as the contract has it: the first rebuilt sample
-pub grey_written : (r : CodedPlane) (file' rebuilt' : List ℕ) → CodesPlane 1 1 1 28 (replicate 256 138) (replicate 535 7) (replicate 256 7) r file' rebuilt' → get_or rebuilt' 0 0 ≡ 136
+pub grey_written : (r : Result ℕ Refusal) (file' rebuilt' : List ℕ) → CodesPlane 1 1 1 28 (replicate 256 138) (replicate 535 7) (replicate 256 7) r file' rebuilt' → get_or rebuilt' 0 0 ≡ 136
 unfolding size_holds rows_hold plane_before fold
 grey_written r file' rebuilt' c = ap (λ (p : List ℕ). get_or p 0 0) c.stored ∙ grey_step
 
@@ -91,7 +92,7 @@ behind file area n e =
     ∙ get_or-append-add file (drop (length file) area) 0 0 ∙ get_or-drop (length file) area 0 0 ∙ ap (λ (k : ℕ). get_or area k 0) (sym z)
 
 -- as the contract has it, in an area full of 7: the mark of 16x16, and the first byte behind its record
-pub rest_kept : (r : CodedPlane) (file' rebuilt' : List ℕ) → CodesPlane 1 1 1 28 light_corner (replicate 535 7) (replicate 256 7) r file' rebuilt'
+pub rest_kept : (r : Result ℕ Refusal) (file' rebuilt' : List ℕ) → CodesPlane 1 1 1 28 light_corner (replicate 535 7) (replicate 256 7) r file' rebuilt'
     → (get_or file' 9 0 ≡ 54) × (get_or file' 528 0 ≡ 7)
 unfolding size_holds rows_hold grid tab
 rest_kept r file' rebuilt' c =

@@ -10,11 +10,11 @@ use denote.Triple.Clauses.{AtExit}
 use borrow.Fn.Kinds.{Dens, res_t, ended_of}
 use lib.ListN.{length, drop}
 use Rattle.plane.specs.Code.{CodesPlane}
-use Rattle.plane.specs.declared.CodedPlane.{CodedPlane}
-use Rattle.plane.specs.declared.CodedPlane.TheVariants.{Bytes}
 use Rattle.plane.proofs.CodedOutcome.{outcome}
 use Rattle.plane.proofs.code_plane.Kinds as call
 use Rattle.plane.proofs.code_plane.Reads as reads
+use Rattle.std.specs.Prelude.{Ok, Result}
+use Rattle.refusal.specs.declared.Refusal.{Refusal}
 
 module _ (κs : Lfts 3) (a : Dens κs call.ps) (r : (res_t call.r κs).Denot) (e : AtExit (ended_of 3 call.ps call.r) κs) (p : reads.Learnt κs a r e) where
   -- the file area, as it was lent and as it is left
@@ -24,9 +24,9 @@ module _ (κs : Lfts 3) (a : Dens κs call.ps) (r : (res_t call.r κs).Denot) (e
   abbrev left : List ℕ
   left = e.1.1.1.1.1.0.now
 
-  pub rest_keeps : (used : ℕ) → r ≡ Bytes used → (used ≤ length lent) × (drop used left ≡ drop used lent)
+  pub rest_keeps : (used : ℕ) → r ≡ Ok used → (used ≤ length lent) × (drop used left ≡ drop used lent)
   rest_keeps used is =
       let rebuilt = a.1.1.1.1.1.1.0.now in
-      let c = subst (λ (x : CodedPlane). CodesPlane a.0 a.1.0 a.1.1.0 a.1.1.1.0 a.1.1.1.1.0.now lent rebuilt x left e.1.1.1.1.1.1.0.now) is p in
+      let c = subst (λ (x : Result ℕ Refusal). CodesPlane a.0 a.1.0 a.1.1.0 a.1.1.1.0 a.1.1.1.1.0.now lent rebuilt x left e.1.1.1.1.1.1.0.now) is p in
       let o = outcome a.0 a.1.0 a.1.1.0 a.1.1.1.0 a.1.1.1.1.0.now lent rebuilt used left e.1.1.1.1.1.1.0.now c in
       (o.within, o.kept)

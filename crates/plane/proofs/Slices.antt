@@ -40,13 +40,13 @@ use Rattle.macroblock.proofs.Own.{step_by_samples, record_by_samples}
 use Rattle.plane.specs.Decode.{record_in, layout_in, cleared}
 use Rattle.plane.specs.Code.{in_slices, behind_head, area_length, plane_before, plane_from, file_from, CodesPlane}
 use Rattle.plane.specs.Slices.{slice_at, SameInSlice}
-use Rattle.plane.specs.declared.CodedPlane.{CodedPlane}
-use Rattle.plane.specs.declared.CodedPlane.TheVariants.{Bytes}
 use Rattle.plane.proofs.CodedFile.{record_on}
 use Rattle.plane.proofs.CodedOutcome.{outcome}
 use Rattle.plane.proofs.Trip.{own_record_in}
 use Rattle.plane.proofs.code_plane.Kinds as call
 use Rattle.plane.proofs.code_plane.Reads as reads
+use Rattle.std.specs.Prelude.{Ok, Result}
+use Rattle.refusal.specs.declared.Refusal.{Refusal}
 
 -- ---- by the definitions
 
@@ -80,8 +80,8 @@ module _ (l : Layout) (some : 0 < l.width) where
 
 -- two planes coded alike: the records of a slice in which they agree, each in the bytes used, and its rebuilt samples
 module _ (width height rows qp : ℕ) (p q file-p rebuilt-p file-q rebuilt-q : List ℕ) (used-p used-q : ℕ) (file-p' rebuilt-p' file-q' rebuilt-q' : List ℕ)
-    (coded-p : CodesPlane width height rows qp p file-p rebuilt-p (Bytes used-p) file-p' rebuilt-p')
-    (coded-q : CodesPlane width height rows qp q file-q rebuilt-q (Bytes used-q) file-q' rebuilt-q')
+    (coded-p : CodesPlane width height rows qp p file-p rebuilt-p (Ok used-p) file-p' rebuilt-p')
+    (coded-q : CodesPlane width height rows qp q file-q rebuilt-q (Ok used-q) file-q' rebuilt-q')
     (slice : ℕ) (same : SameInSlice (in_slices width height rows) slice p q)
   where
     abbrev l : Layout
@@ -122,13 +122,13 @@ module _ (κs κs' : Lfts 3) (a : Dens κs call.ps) (a' : Dens κs' call.ps) (r 
     rebuilt' = e'.1.1.1.1.1.1.0.now
 
     pub slice_alone : a'.0 ≡ a.0 → a'.1.0 ≡ a.1.0 → a'.1.1.0 ≡ a.1.1.0 → a'.1.1.1.0 ≡ a.1.1.1.0
-        → (used used' : ℕ) → r ≡ Bytes used → r' ≡ Bytes used'
+        → (used used' : ℕ) → r ≡ Ok used → r' ≡ Ok used'
         → (slice : ℕ) → SameInSlice layout slice a.1.1.1.1.0.now a'.1.1.1.1.0.now
         → ((m : ℕ) → m < count_of layout → slice_of layout m ≡ slice → record_in (take used left) (behind_head layout) m ≡ record_in (take used' left') (behind_head layout) m)
         × SameInSlice layout slice rebuilt rebuilt'
     slice_alone width height rows qp used used' is is' slice same =
-        let c = subst (λ (x : CodedPlane). CodesPlane a.0 a.1.0 a.1.1.0 a.1.1.1.0 a.1.1.1.1.0.now a.1.1.1.1.1.0.now a.1.1.1.1.1.1.0.now x left rebuilt) is learnt in
-        let d : CodesPlane a.0 a.1.0 a.1.1.0 a.1.1.1.0 a'.1.1.1.1.0.now a'.1.1.1.1.1.0.now a'.1.1.1.1.1.1.0.now (Bytes used') left' rebuilt' =
+        let c = subst (λ (x : Result ℕ Refusal). CodesPlane a.0 a.1.0 a.1.1.0 a.1.1.1.0 a.1.1.1.1.0.now a.1.1.1.1.1.0.now a.1.1.1.1.1.1.0.now x left rebuilt) is learnt in
+        let d : CodesPlane a.0 a.1.0 a.1.1.0 a.1.1.1.0 a'.1.1.1.1.0.now a'.1.1.1.1.1.0.now a'.1.1.1.1.1.1.0.now (Ok used') left' rebuilt' =
         coe 0 1 (i. CodesPlane (width i) (height i) (rows i) (qp i) a'.1.1.1.1.0.now a'.1.1.1.1.1.0.now a'.1.1.1.1.1.1.0.now (is' i) left' rebuilt') learnt' in
         alone_coded a.0 a.1.0 a.1.1.0 a.1.1.1.0 a.1.1.1.1.0.now a'.1.1.1.1.0.now
         a.1.1.1.1.1.0.now a.1.1.1.1.1.1.0.now a'.1.1.1.1.1.0.now a'.1.1.1.1.1.1.0.now
@@ -138,11 +138,11 @@ module _ (κs κs' : Lfts 3) (a : Dens κs call.ps) (a' : Dens κs' call.ps) (r 
 
 module _ (κs : Lfts 3) (a : Dens κs call.ps) (r : (res_t call.r κs).Denot) (e : AtExit (ended_of 3 call.ps call.r) κs) (learnt : reads.Learnt κs a r e) where
   -- "the coder writes it exactly if n is the height": what the file begins with, of a call that answers how many bytes were used
-  pub old_head_exactly_if : (used : ℕ) → r ≡ Bytes used
+  pub old_head_exactly_if : (used : ℕ) → r ≡ Ok used
       → (take old_length (take used e.1.1.1.1.1.0.now) ≡ old_head a.0 a.1.0) ↔ (a.1.1.0 ≡ a.1.0)
   unfolding file_from
   old_head_exactly_if used is =
-      let c = subst (λ (x : CodedPlane). CodesPlane a.0 a.1.0 a.1.1.0 a.1.1.1.0 a.1.1.1.1.0.now a.1.1.1.1.1.0.now a.1.1.1.1.1.1.0.now x e.1.1.1.1.1.0.now e.1.1.1.1.1.1.0.now) is learnt in
+      let c = subst (λ (x : Result ℕ Refusal). CodesPlane a.0 a.1.0 a.1.1.0 a.1.1.1.0 a.1.1.1.1.0.now a.1.1.1.1.1.0.now a.1.1.1.1.1.1.0.now x e.1.1.1.1.1.0.now e.1.1.1.1.1.1.0.now) is learnt in
       let o = outcome a.0 a.1.0 a.1.1.0 a.1.1.1.0 a.1.1.1.1.0.now a.1.1.1.1.1.0.now a.1.1.1.1.1.1.0.now used e.1.1.1.1.1.0.now e.1.1.1.1.1.1.0.now c in
       let l = in_slices a.0 a.1.0 a.1.1.0 in
       let records = parts (count_of l) (record_on l a.1.1.1.0 a.1.1.1.1.0.now (cleared (plane_length 16 l))) in

@@ -21,8 +21,6 @@ use Rattle.lists.proofs.Bytes.{bytes_tab}
 use Rattle.lists.proofs.Chain.{chain_passed}
 use Rattle.lists.proofs.Chains.{chain_parts}
 use Rattle.lists.proofs.Fold.{fold_follow, fold_keeps}
-use Rattle.refusal.specs.declared.Answer.{Answer}
-use Rattle.refusal.specs.declared.Answer.TheVariants.{Done}
 use Rattle.refusal.proofs.Same.{says_same, same_answer}
 use Rattle.quantizer.specs.Range.{highest}
 use Rattle.head.specs.Entry.{size_holds, rows_hold}
@@ -40,12 +38,13 @@ use Rattle.macroblock.proofs.Contents.{content_own, step_again}
 use Rattle.macroblock.proofs.Looks.{coded_bytes}
 use Rattle.plane.specs.Decode.{record_in, luma_in, forms_tests, macroblock_tests, contents_tests, body_tests, rebuilt_from, cleared, Decodes}
 use Rattle.plane.specs.Code.{in_slices, head_for, behind_head, plane_before, plane_from, file_from, coded_file, coded_plane, CodesPlane}
-use Rattle.plane.specs.declared.CodedPlane.TheVariants as coded
 use Rattle.plane.proofs.CodedFile.{record_on, own_on}
 use Rattle.plane.proofs.CodedOutcome.{outcome}
 use Rattle.plane.proofs.Entry.{body_rest, body_done, LegalHead, decodes_by, macroblocks_some}
 use Rattle.plane.proofs.OwnFile.{own_file, file_colour, file_forms, file_record, file_luma, file_head}
 use Rattle.plane.proofs.Walking.{tests_mono}
+use Rattle.std.specs.Prelude.{Ok, Result}
+use Rattle.refusal.specs.declared.Refusal.{Refusal}
 
 -- the plane before macroblock m is of bytes, as the one that it began with
 pub before_bytes : (l : Layout) (qp : ℕ) → qp ≤ highest → (original start : List ℕ) → Bytes original → Bytes start → (m : ℕ) → Bytes (plane_before l qp original start m)
@@ -111,7 +110,7 @@ cleared_bytes n = bytes_tab n (λ k. 0) (λ k h. omega arith)
 
 pub own_file_decodes : (width height rows qp : ℕ) (plane : List ℕ) → size_holds width height ≡ true → rows_hold height rows ≡ true → qp ≤ highest → Bytes plane
     → (out : List ℕ) → length out ≡ plane_length 16 (in_slices width height rows)
-    → Decodes (coded_file (in_slices width height rows) qp plane) out Done (coded_plane (in_slices width height rows) qp plane)
+    → Decodes (coded_file (in_slices width height rows) qp plane) out (Ok tt) (coded_plane (in_slices width height rows) qp plane)
 own_file_decodes width height rows qp plane size sliced legal bytes out room =
     let l = in_slices width height rows in
     let start = cleared (plane_length 16 (in_slices width height rows)) in
@@ -128,10 +127,10 @@ own_file_decodes width height rows qp plane size sliced legal bytes out room =
 -- ---- by the two contracts
 
 pub coder_decoder_agree : (width height rows qp : ℕ) (plane file rebuilt : List ℕ) (used : ℕ) (file' rebuilt' : List ℕ) → Bytes plane
-    → CodesPlane width height rows qp plane file rebuilt (coded.Bytes used) file' rebuilt'
+    → CodesPlane width height rows qp plane file rebuilt (Ok used) file' rebuilt'
     → (out : List ℕ) → length out ≡ plane_length 16 (in_slices width height rows)
-    → Decodes (take used file') out Done rebuilt' × ((r : Answer) (after : List ℕ) → Decodes (take used file') out r after → (r ≡ Done) × (after ≡ rebuilt'))
+    → Decodes (take used file') out (Ok tt) rebuilt' × ((r : Result (Unit {0}) Refusal) (after : List ℕ) → Decodes (take used file') out r after → (r ≡ Ok tt) × (after ≡ rebuilt'))
 coder_decoder_agree width height rows qp plane file rebuilt used file' rebuilt' bytes c out room =
     let o = outcome width height rows qp plane file rebuilt used file' rebuilt' c in
-    let d : Decodes (take used file') out Done rebuilt' = rw (o.filed, o.stored) (own_file_decodes width height rows qp plane o.size o.sliced o.legal bytes out room) in
-    (d, λ r after e. (same_answer r Done (says_same e.says ∙ sym (says_same d.says)), e.wrote ∙ sym d.wrote))
+    let d : Decodes (take used file') out (Ok tt) rebuilt' = rw (o.filed, o.stored) (own_file_decodes width height rows qp plane o.size o.sliced o.legal bytes out room) in
+    (d, λ r after e. (same_answer r (Ok tt) (says_same e.says ∙ sym (says_same d.says)), e.wrote ∙ sym d.wrote))

@@ -6,11 +6,10 @@ use native.Mathlib.Omega.{arith}
 use lib.ListN.{length, drop, length-drop}
 use lib.Seq.{length-take-le}
 use Rattle.unique.specs.Unique.{Unique}
-use Rattle.refusal.proofs.Same.{says_same, same_answer}
+use Rattle.refusal.proofs.Same.{says_same, same_answer, same_valued}
 use Rattle.record.specs.Kinds.{in_chroma, length_of}
 use Rattle.plane.specs.Walk.{BehindLuma}
 use Rattle.plane.specs.declared.Behind.{Behind}
-use Rattle.plane.proofs.CodedOutcome.{same_coded_plane}
 use Rattle.plane.proofs.code_plane.Kinds as code_plane
 use Rattle.plane.proofs.code_plane.Reads as code_plane_reads
 use Rattle.plane.proofs.decode_plane.Kinds as decode_plane
@@ -59,4 +58,4 @@ pub code_plane_unique : Unique 3 code_plane.ps code_plane.r code_plane_reads.Lea
 code_plane_unique κs a x y e f p q =
     let file = p.filed ∙ sym q.filed in
     let plane = p.stored ∙ sym q.stored in
-    (same_coded_plane x y (says_same p.says ∙ sym (says_same q.says)) (p.used ∙ sym q.used), λ i. (file i, plane i))
+    (same_valued x y (says_same p.says ∙ sym (says_same q.says)) (p.used ∙ sym q.used), λ i. (file i, plane i))

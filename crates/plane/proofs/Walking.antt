@@ -3,7 +3,7 @@
 --     Walking: part_inside, part_is             the place is that at which record k begins; what is lent from there lies in the file, and is record k
 --     kind_some                                 luma's record has a QP
 --     luma_among, luma_long, chroma_among, chroma_long     macroblock m's records are among the file's, and as long as their kinds
---     walking_none, next_behind, next_is, next_inside        from one macroblock's records to the next one's
+--     walking_none, next_is, next_inside        from one macroblock's records to the next one's
 --     tests_refused, tests_mono, tests_colour, luma_passed     what the tests of a macroblock's records come to
 -- Assumes nothing.
 use mathlib.Core.Path.{◌≡◌, refl, sym, ap, ◌∙◌}
@@ -20,7 +20,6 @@ use Rattle.refusal.proofs.Faults.{false_not_true}
 use Rattle.record.specs.Faults.{walk_of}
 use Rattle.record.specs.Kinds.{in_fours, in_whole, in_chroma, length_of, per_macroblock, expected_in}
 use Rattle.record.specs.Records.{is_whole, qp_in, record_at, record_place, length_from, colour_at}
-use Rattle.record.specs.declared.Walk.TheVariants.{Whole}
 use Rattle.record.specs.declared.Expected.{Expected}
 use Rattle.record.proofs.Marks.{expected_luma_law, expected_chroma_law}
 use Rattle.record.proofs.Walks.{Lent, lent, lent_whole, lent_fours, lent_chroma, place_none, place_next, walk_whole_exactly_if, form_passes_exactly_if}
@@ -30,6 +29,7 @@ use Rattle.macroblock.specs.Content.{kind_by, content_tests}
 use Rattle.macroblock_chroma.specs.Content.{content_tests_chroma}
 use Rattle.plane.specs.Decode.{record_in, luma_number, luma_in, chroma_in, chroma_place, forms_tests, macroblock_tests}
 use Rattle.plane.specs.Walk.{next_place}
+use Rattle.std.specs.Prelude.{Ok}
 
 -- either kind of luma's record has a QP
 pub kind_some : (part : List ℕ) → 4 < length_of (kind_by part)
@@ -39,17 +39,12 @@ kind_some part = by (is_whole part)
     by true = omega arith
     by false = omega arith
 
--- behind luma's record at least
-pub next_behind : (file : List ℕ) (colour : Bool) (place : ℕ) → place + length_from place file ≤ next_place file colour place
-next_behind file true place = omega arith
-next_behind file false place = omega arith
-
 module _ (l : Layout) (file : List ℕ) (start : ℕ) where
   -- how many records the file has
   abbrev pub record_count : ℕ
   record_count = luma_number file start (count_of l)
 
-  pub walk_through : chain (forms_tests l start file) ≡ pass → walk_of (colour_at start file) record_count file start ≡ Whole (record_place record_count file start)
+  pub walk_through : chain (forms_tests l start file) ≡ pass → walk_of (colour_at start file) record_count file start ≡ Ok (record_place record_count file start)
   walk_through e = (walk_whole_exactly_if (colour_at start file) file start record_count).1 ((form_passes_exactly_if (colour_at start file) file start record_count).0 e).0
 
   -- record k begins at the place

@@ -14,7 +14,6 @@ use Rattle.lists.specs.Fold.{fold}
 use Rattle.lists.specs.Tab.{tab}
 use Rattle.lists.specs.Chain.{pass, chain}
 use Rattle.refusal.specs.Number.{number, place}
-use Rattle.refusal.specs.declared.Answer.{Answer}
 use Rattle.head.specs.Entry.{size_holds, rows_hold, rows_at}
 use Rattle.record.specs.Faults.{form_of, walk_of}
 use Rattle.record.specs.Kinds.{kind_of, expected_in}
@@ -26,8 +25,10 @@ use Rattle.record.specs.Records.{record_of, record_with, length_in, colour_at}
 use Rattle.octets.specs.Sum.{sum_of}
 use Rattle.plane.specs.Code.{code_plane_tests}
 use Rattle.plane.specs.Decode.{decode_tests, Decodes}
+use Rattle.std.specs.Prelude.{Result}
+use Rattle.refusal.specs.declared.Refusal.{Refusal}
 
-pub refusal_writes_nothing : (r : Answer) (after : List ℕ) → Decodes [] (7 ∷ []) r after → after ≡ 7 ∷ []
+pub refusal_writes_nothing : (r : Result (Unit {0}) Refusal) (after : List ℕ) → Decodes [] (7 ∷ []) r after → after ≡ 7 ∷ []
 refusal_writes_nothing r after p = p.wrote
 
 pub length_before_quantizer : number (chain (code_plane_tests 1 1 1 52 [] [] [])) ≡ 1

@@ -1,10 +1,10 @@
 -- Coding a plane: "Coding a plane writes the file and the rebuilt plane. .. Neighbours are rebuilt samples. One QP per picture when coding"
 -- (01, "Plane and record file"). Assumes nothing.
 use Rattle.std.specs.Prelude.{◌≡◌, List, [], ◌∷◌, ◌++◌, ℕ, ◌+◌, ◌*◌, length}
-use Rattle.lists.specs.Chain.{Test, test, Verdict, pass, stop, chain, written}
+use Rattle.lists.specs.Chain.{Test, test, Verdict, chain, written}
 use Rattle.lists.specs.Fold.{fold}
 use Rattle.lists.specs.Parts.{parts, over}
-use Rattle.refusal.specs.Number.{Says}
+use Rattle.refusal.specs.Number.{said, value_back, Says}
 use Rattle.refusal.specs.Tests.{length_test}
 use Rattle.refusal.specs.declared.Refusal.{Refusal}
 use Rattle.refusal.specs.declared.Refusal.TheVariants as refusal
@@ -17,8 +17,7 @@ use Rattle.picture.specs.Order.{count_of}
 use Rattle.picture.specs.Plane.{plane_length}
 use Rattle.macroblock.specs.Code.{record_from, coded_step}
 use Rattle.plane.specs.Decode.{cleared}
-use Rattle.plane.specs.declared.CodedPlane.{CodedPlane}
-use Rattle.plane.specs.declared.CodedPlane.TheVariants.{Bytes, Refused}
+use Rattle.std.specs.Prelude.{Result}
 
 -- the picture of a size in slices: "a run of n whole macroblock rows; the last may be shorter" (02, Req 02)
 abbrev pub in_slices : (width height rows : ℕ) → Layout
@@ -69,25 +68,15 @@ code_plane_tests width height rows qp plane file rebuilt =
     ∷ length_test (plane_length 16 (in_slices width height rows)) (length rebuilt)
     ∷ quantizer_test 0 qp ∷ []
 
--- what an answer says, and how many bytes of the file area were used (0 where refused): "a definition gives, for each of its cases, this
--- paper's number and values" (01, "Some places and their forms")
-abbrev pub said_plane : CodedPlane → Verdict Refusal
-said_plane (Bytes used) = pass
-said_plane (Refused r) = stop r
-
-abbrev pub bytes_used : CodedPlane → ℕ
-bytes_used (Bytes used) = used
-bytes_used (Refused r) = 0
-
 -- what is left of the file area and the rebuilt plane by a verdict, file' and rebuilt': "the result says how many bytes were used, and the
--- rest keep theirs" (02, Req 01)
-pub record LeavesPlane (v : Verdict Refusal) (l : Layout) (qp : ℕ) (plane file rebuilt : List ℕ) (r : CodedPlane) (file' rebuilt' : List ℕ) : Type 0 where
-  pub says : Says (said_plane r) v
-  pub used : bytes_used r ≡ written v (length (coded_file l qp plane)) 0
+-- rest keep theirs" (02, Req 01); the number that comes back is how many bytes of the file area were used
+pub record LeavesPlane (v : Verdict Refusal) (l : Layout) (qp : ℕ) (plane file rebuilt : List ℕ) (r : Result ℕ Refusal) (file' rebuilt' : List ℕ) : Type 0 where
+  pub says : Says (said r) v
+  pub used : value_back r ≡ written v (length (coded_file l qp plane)) 0
   pub filed : file' ≡ written v (over (coded_file l qp plane) file) file
   pub stored : rebuilt' ≡ written v (coded_plane l qp plane) rebuilt
 
 -- what `code_plane` makes of them as they were
-abbrev pub CodesPlane : (width height rows qp : ℕ) (plane file rebuilt : List ℕ) (r : CodedPlane) (file' rebuilt' : List ℕ) → Type 0
+abbrev pub CodesPlane : (width height rows qp : ℕ) (plane file rebuilt : List ℕ) (r : Result ℕ Refusal) (file' rebuilt' : List ℕ) → Type 0
 CodesPlane width height rows qp plane file rebuilt r file' rebuilt' =
     LeavesPlane (chain (code_plane_tests width height rows qp plane file rebuilt)) (in_slices width height rows) qp plane file rebuilt r file' rebuilt'

@@ -8,7 +8,6 @@ use Rattle.lists.specs.Parts.{parts}
 use Rattle.lists.specs.Tab.{tab}
 use Rattle.refusal.specs.Number.{said, Says}
 use Rattle.refusal.specs.Tests.{length_test}
-use Rattle.refusal.specs.declared.Answer.{Answer}
 use Rattle.refusal.specs.declared.Refusal.{Refusal}
 use Rattle.head.specs.Entry.{head_tests, long_at, width_at, height_at, rows_at}
 use Rattle.record.specs.Faults.{walk_of, walk_tests}
@@ -20,6 +19,7 @@ use Rattle.picture.specs.Plane.{plane_length}
 use Rattle.macroblock.specs.Content.{content_tests}
 use Rattle.macroblock.specs.Rebuild.{rebuilt_step}
 use Rattle.macroblock_chroma.specs.Content.{content_tests_chroma}
+use Rattle.std.specs.Prelude.{Result}
 
 -- ---- the records
 
@@ -93,11 +93,11 @@ abbrev pub decoded_plane : List ℕ → List ℕ
 decoded_plane file = decoded (layout_in file) (luma_in file (long_at file))
 
 -- behind a head that is fine and ends at a place: the answer and the plane of the tests that follow
-pub record DecodesBody (l : Layout) (place : ℕ) (file before : List ℕ) (r : Answer) (after : List ℕ) : Type 0 where
+pub record DecodesBody (l : Layout) (place : ℕ) (file before : List ℕ) (r : Result (Unit {0}) Refusal) (after : List ℕ) : Type 0 where
   pub says : said r ≡ chain (body_tests l place file before)
   pub wrote : after ≡ written (chain (body_tests l place file before)) (decoded l (luma_in file place)) before
 
 -- the plane of a file, or the refusal
-pub record Decodes (file before : List ℕ) (r : Answer) (after : List ℕ) : Type 0 where
+pub record Decodes (file before : List ℕ) (r : Result (Unit {0}) Refusal) (after : List ℕ) : Type 0 where
   pub says : Says (said r) (chain (decode_tests file before))
   pub wrote : after ≡ written (chain (decode_tests file before)) (decoded_plane file) before

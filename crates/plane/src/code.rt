@@ -19,6 +19,7 @@ pub(crate) fn area_length(layout: Layout) -> usize
 }
 
 // The head and all macroblocks over the front of the file area; answers the place behind them.
+// The walk stands in `frame::code` too, about another step: one function of both would be public over any step (as at `rebuild_plane`).
 pub(crate) fn code_file(
     layout: Layout,
     quantizer: Quantizer,
@@ -40,16 +41,15 @@ pub(crate) fn code_file(
     );
     let count = layout.width * layout.height;
     for m in 0usize..count {
-        let end = file.len();
         let used = macroblock::inner::code_macroblock(
             layout,
             m,
             quantizer,
             plane,
-            &mut file[place..end],
+            &mut file[place..],
             rebuilt,
         );
-        place = place + used;
+        place += used;
     }
     place
 }

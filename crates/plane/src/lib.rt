@@ -6,23 +6,16 @@ ghost use Rattle.picture.specs.Order.{Sound};
 ghost use Rattle.plane.specs.Code.{CodesPlane};
 ghost use Rattle.plane.specs.Decode.{DecodesBody, Decodes};
 
-use head::Head;
 use picture::Layout;
-use quantizer::{Built, Quantizer};
-use refusal::{Answer, Refusal};
+use quantizer::Quantizer;
+use refusal::Refusal;
 
 mod code;
 mod content;
 pub mod inner;
 
-// The answer where a plane is coded: how many bytes of the file area were used.
-#[derive(Clone, Copy)]
-pub enum CodedPlane {
-    Bytes(usize),
-    Refused(Refusal),
-}
-
 // What a macroblock of a colour file has behind its luma record: its chroma record begins at a place and ends before another; and luma's QP.
+// A place and an end, and no slice: `BehindLuma` counts both in the file, and `test_chroma` wants the place beside the slice.
 #[derive(Clone, Copy)]
 pub struct Behind {
     pub qp: u8,
@@ -31,42 +24,36 @@ pub struct Behind {
 }
 
 // The plane of a file whose head tells of this picture and ends at a place: nothing is written before the last test.
-fn decode(layout: Layout, place: usize, file: &[u8], plane: &mut [u8]) -> Answer
+fn decode(layout: Layout, place: usize, file: &[u8], plane: &mut [u8]) -> Result<(), Refusal>
     requires { Sound layout }
     ensures { DecodesBody layout place file.now plane.old result plane.new }
 {
     let count = layout.width * layout.height;
     if plane.len() != 256 * count {
-        return Answer::Refused(Refusal::Length);
+        return Err(Refusal::Length);
     }
-    match inner::test_file(layout, place, file) {
-        Answer::Refused(refusal) => Answer::Refused(refusal),
-        Answer::Done => {
-            inner::clear(plane);
-            inner::rebuild_plane(layout, place, file, plane);
-            Answer::Done
-        }
-    }
+    inner::test_file(layout, place, file)?;
+    inner::clear(plane);
+    inner::rebuild_plane(layout, place, file, plane);
+    Ok(())
 }
 
-// The plane of a record file.
-pub fn decode_plane(file: &[u8], plane: &mut [u8]) -> Answer
+// The plane of a record file. The layout of a head is written out here, in `frame` and in `inspection`: `Layout` and `Head` are of two crates of which
+// neither uses the other, and a `From` in one would be a public function to .ci/stamp, whose clause is these lines again.
+pub fn decode_plane(file: &[u8], plane: &mut [u8]) -> Result<(), Refusal>
     ensures { Decodes file.now plane.old result plane.new }
 {
-    match head::read_head(file) {
-        Head::Refused(refusal) => Answer::Refused(refusal),
-        Head::Legal(width, height, rows, long) => {
-            let layout = Layout {
-                width: width,
-                height: height,
-                rows: rows,
-            };
-            decode(layout, long, file, plane)
-        }
-    }
+    let head = head::read_head(file)?;
+    let layout = Layout {
+        width: head.width,
+        height: head.height,
+        rows: head.rows,
+    };
+    decode(layout, head.long, file, plane)
 }
 
-// The record file of a plane in slices of so many rows, and the plane that a decoder rebuilds from it.
+// The record file of a plane in slices of so many rows, and the plane that a decoder rebuilds from it; answers how many bytes of the file area were
+// used. `CodesPlane`, the export for C and the theorems over its reading name these parameters.
 pub fn code_plane(
     width: usize,
     height: usize,
@@ -75,35 +62,31 @@ pub fn code_plane(
     plane: &[u8],
     file: &mut [u8],
     rebuilt: &mut [u8],
-) -> CodedPlane
+) -> Result<usize, Refusal>
     ensures { CodesPlane width height rows qp plane.now file.old rebuilt.old result file.new rebuilt.new }
 {
     if !head::inner::size_holds(width, height) {
-        return CodedPlane::Refused(Refusal::Size);
+        return Err(Refusal::Size);
     }
     if !head::inner::rows_hold(height, rows) {
-        return CodedPlane::Refused(Refusal::Size);
+        return Err(Refusal::Size);
     }
     let layout = Layout {
-        width: width,
-        height: height,
-        rows: rows,
+        width,
+        height,
+        rows,
     };
     let count = width * height;
     if plane.len() != 256 * count {
-        return CodedPlane::Refused(Refusal::Length);
+        return Err(Refusal::Length);
     }
     if file.len() != code::area_length(layout) {
-        return CodedPlane::Refused(Refusal::Length);
+        return Err(Refusal::Length);
     }
     if rebuilt.len() != 256 * count {
-        return CodedPlane::Refused(Refusal::Length);
+        return Err(Refusal::Length);
     }
-    match Quantizer::new(qp) {
-        Built::Refused(refusal) => CodedPlane::Refused(refusal),
-        Built::Legal(quantizer) => {
-            inner::clear(rebuilt);
-            CodedPlane::Bytes(code::code_file(layout, quantizer, plane, file, rebuilt))
-        }
-    }
+    let quantizer = Quantizer::new(qp)?;
+    inner::clear(rebuilt);
+    Ok(code::code_file(layout, quantizer, plane, file, rebuilt))
 }

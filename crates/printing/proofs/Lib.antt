@@ -1,3 +1,3 @@
-pub mod Adding
 pub mod Coded
+pub mod Decimal
 pub mod Unique

@@ -2,164 +2,103 @@
 
 #![tactic(auto)]
 
-ghost use Rattle.std.specs.Prelude.{◌+◌, ◌<◌, ◌≤◌, ◌≡◌, [], ◌∷◌, ◌++◌, pos, length, get_or};
+ghost use Rattle.std.specs.Prelude.{◌+◌, ◌≤◌, ◌≡◌, [], ◌∷◌, ◌++◌, pos, length, slice_index_or};
 ghost use Rattle.refusal.specs.Number.{number_of, place_of};
 ghost use Rattle.intra4.specs.Choice.{at};
-ghost use Rattle.printing.specs.Text.{digit_at, decimal_of, signed_of, behind as paperBehind, line_of, Adds, Written};
+ghost use Rattle.printing.specs.Text.{signed_of, behind as paperBehind, line_of};
 ghost use Rattle.printing.specs.Printed.{refused_text, ok_text, Prints};
 
-use intra4::Chosen;
+use arrayvec::ArrayString;
+use itoa::{Buffer, Integer};
 use refusal::Refusal;
+use std::marker::Model;
 
-// Text and its length; what stands behind it is 0.
-#[derive(Clone, Copy)]
+// A text of at most 1024 bytes, in the value itself, so that none of the functions here can run out of memory.
+// By `push_str` and not `write!`, which answers a `Result` of which no clause says that it is `Ok`: `printed` cannot fail.
+#[derive(Drop)]
 pub struct Text {
-    pub bytes: [u8; 1024],
-    pub len: usize,
+    pub written: ArrayString<1024>,
 }
 
-// The powers of ten, from that of a number's twentieth digit on.
-const POWERS: [u64; 20] = [
-    10000000000000000000,
-    1000000000000000000,
-    100000000000000000,
-    10000000000000000,
-    1000000000000000,
-    100000000000000,
-    10000000000000,
-    1000000000000,
-    100000000000,
-    10000000000,
-    1000000000,
-    100000000,
-    10000000,
-    1000000,
-    100000,
-    10000,
-    1000,
-    100,
-    10,
-    1,
-];
+impl Model for Text {
+    ghost use Rattle.std.specs.Prelude.{List, ℕ};
 
-fn empty() -> Text
-    ensures { (Written [] result) × (result.len ≡ 0) }
-{
-    Text {
-        bytes: [0u8; 1024],
-        len: 0,
-    }
+    ghost Value = { List ℕ };
+
+    ghost view = { λ t. t.written.bytes };
 }
 
-fn with_byte(t: Text, b: u8) -> Text
-    requires { t.len < 1024 }
-    ensures { Adds (b ∷ []) t result }
-{
-    let at = t.len;
-    let mut next = t;
-    next.bytes[at] = b;
-    next.len = at + 1;
-    next
-}
+impl Text {
+    fn new() -> Self
+        ensures { result ≡ [] }
+    {
+        Text {
+            written: ArrayString::new(),
+        }
+    }
 
-// A digit, where it stands.
-fn with_digit(t: Text, n: u64, power: u64) -> Text
-    requires { (t.len < 1024) × (0 < power) }
-    ensures { (Adds (digit_at n power) t result) × (result.len ≤ t.len + 1) }
-{
-    let digit = 48 + (n / power % 10) as u8;
-    if power <= n {
-        return with_byte(t, digit);
+    fn push_str(&mut self, words: &str)
+        requires { length self.old + length words.now ≤ 1024 }
+        ensures { self.new ≡ self.old ++ words.now }
+    {
+        self.written.push_str(words);
     }
-    if power == 1 {
-        return with_byte(t, digit);
-    }
-    t
-}
 
-fn with_number(t: Text, n: u64) -> Text
-    requires { t.len + 20 ≤ 1024 }
-    ensures { (Adds (decimal_of n) t result) × (result.len ≤ t.len + 20) }
-{
-    let mut next = t;
-    for k in 0usize..20 {
-        let power = POWERS[k];
-        next = with_digit(next, n, power);
+    fn push_number<I: Integer>(&mut self, n: I)
+        requires { length self.old + I.MAX_STR_LEN ≤ 1024 }
+        ensures text { self.new ≡ self.old ++ I.text n }
+        ensures short { length self.new ≤ length self.old + I.MAX_STR_LEN }
+    {
+        self.push_str(Buffer::new().format(n));
     }
-    next
-}
 
-fn with_words(t: Text, words: &[u8]) -> Text
-    requires { (length words.now ≤ 8) × (t.len + 8 ≤ 1024) }
-    ensures { (Adds words.now t result) × (result.len ≤ t.len + 8) }
-{
-    let mut next = t;
-    let mut k = 0;
-    while k < words.len() {
-        next = with_byte(next, words[k]);
-        k += 1;
+    // Sixteen numbers in a line.
+    fn push_line(&mut self, numbers: &[i32; 16])
+        requires { length self.old + 192 ≤ 1024 }
+        ensures text { self.new ≡ self.old ++ line_of (λ k. signed_of (slice_index_or numbers.now k (pos 0))) }
+        ensures short { length self.new ≤ length self.old + 192 }
+    {
+        for (k, z) in numbers.iter().enumerate() {
+            self.push_number(*z);
+            self.push_str(behind(k));
+        }
     }
-    next
-}
-
-fn with_signed(t: Text, z: i32) -> Text
-    requires { t.len + 21 ≤ 1024 }
-    ensures { (Adds (signed_of z) t result) × (result.len ≤ t.len + 21) }
-{
-    let size = whole::inner::absolute(z) as u64;
-    if z < 0 {
-        return with_number(with_byte(t, 45), size);
-    }
-    with_number(t, size)
 }
 
 // What stands behind the k-th of sixteen numbers.
-fn behind(k: usize) -> u8
-    ensures { result ≡ paperBehind k }
+fn behind(k: usize) -> &'static str
+    ensures { result.now ≡ paperBehind k ∷ [] }
 {
-    if k == 15 { 10 } else { 32 }
+    if k == 15 { "\n" } else { " " }
 }
 
-fn with_levels(t: Text, levels: [i32; 16]) -> Text
-    requires { t.len + 352 ≤ 1024 }
-    ensures { (Adds (line_of (λ k. signed_of (get_or levels k (pos 0)))) t result) × (result.len ≤ t.len + 352) }
-{
-    let mut next = t;
-    for k in 0usize..16 {
-        next = with_byte(with_signed(next, levels[k]), behind(k));
-    }
-    next
-}
-
-fn with_samples(t: Text, samples: [u8; 16]) -> Text
-    requires { t.len + 336 ≤ 1024 }
-    ensures { (Adds (line_of (λ k. decimal_of (get_or samples k 0))) t result) × (result.len ≤ t.len + 336) }
-{
-    let mut next = t;
-    for k in 0usize..16 {
-        next = with_byte(with_number(next, samples[k] as u64), behind(k));
-    }
-    next
-}
-
+#[tactic(auto, using(crate::proofs::Decimal::decimal_is))]
 fn refused(refusal: Refusal) -> Text
-    ensures { (Written (refused_text (number_of refusal) (place_of refusal)) result) × (result.len ≤ 1024) }
+    ensures text { result ≡ refused_text (number_of refusal) (place_of refusal) }
+    ensures room { length result ≤ 1024 }
 {
-    let word = [114u8, 101, 102, 117, 115, 101, 100, 32];
-    let front = with_words(empty(), &word);
-    let number = with_number(front, refusal::inner::number(refusal) as u64);
-    let place = with_number(with_byte(number, 32), refusal::inner::place(refusal) as u64);
-    with_byte(place, 10)
+    let mut text = Text::new();
+    text.push_str("refused ");
+    text.push_number(refusal::inner::number(refusal));
+    text.push_str(" ");
+    text.push_number(refusal::inner::place(refusal));
+    text.push_str("\n");
+    text
 }
 
 fn accepted(mode: u8, sad: u32, levels: [i32; 16], rebuilt: [u8; 16]) -> Text
-    ensures { (Written (ok_text (at mode sad) levels rebuilt) result) × (result.len ≤ 1024) }
+    ensures text { result ≡ ok_text (at mode sad) levels rebuilt }
+    ensures room { length result ≤ 1024 }
 {
-    let word = [111u8, 107, 32];
-    let front = with_words(empty(), &word);
-    let first = with_number(front, mode as u64);
-    let second = with_number(with_byte(first, 32), sad as u64);
-    with_samples(with_levels(with_byte(second, 10), levels), rebuilt)
+    let mut text = Text::new();
+    text.push_str("ok ");
+    text.push_number(mode);
+    text.push_str(" ");
+    text.push_number(sad);
+    text.push_str("\n");
+    text.push_line(&levels);
+    text.push_line(&rebuilt.map(i32::from));
+    text
 }
 
 // QP, flags, thirteen neighbours and sixteen samples, coded, as text; any other count is refused as a wrong length.
@@ -179,7 +118,7 @@ pub fn printed(input: &[u8]) -> Text
         &mut levels,
         &mut rebuilt,
     ) {
-        Chosen::Refused(refusal) => refused(refusal),
-        Chosen::Mode(mode, sad) => accepted(mode, sad, levels, rebuilt),
+        Err(refusal) => refused(refusal),
+        Ok(best) => accepted(best.mode, best.sad, levels, rebuilt),
     }
 }

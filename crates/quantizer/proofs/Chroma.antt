@@ -1,26 +1,22 @@
 -- Laws of the chroma quantizer.
 --     folded_legal                              what the table gives is legal
 --     run                                       a run of the table with one value, as an arm of the code's match has it
---     chroma_refused, chroma_outside, chroma_legal     what the two tests come to
+--     chroma_legal                              what the two tests come to where both pass
 -- Assumes nothing.
 use mathlib.Core.Path.{◌≡◌, sym, ap, ◌∙◌}
-use mathlib.Core.Bool.{true, false}
-use mathlib.Core.List.{[], ◌∷◌}
+use mathlib.Core.Bool.{true}
 use Prim.Native.Nat.{ℕ, ◌+◌, ◌-◌, ◌≤◌, ◌<◌}
 use native.Mathlib.Omega.{arith}
 use borrow.Author.Tests.{le-ltb}
 use lib.Dec.{T, eqb, eqb→eq, leb, leb→le}
 use lib.IntN.{ℤ, pos, negsuc}
 use lib.ListN.{get_or}
-use Rattle.lists.specs.Chain.{test, pass, stop, chain}
+use Rattle.lists.specs.Chain.{pass, chain}
 use Rattle.lists.specs.Every.{every}
-use Rattle.lists.proofs.Chain.{chain_refused}
 use Rattle.lists.proofs.Every.{every_at}
-use Rattle.refusal.specs.declared.Refusal.{Refusal}
-use Rattle.refusal.specs.declared.Refusal.TheVariants as refusal
 use Rattle.whole.specs.Range.{inside}
 use Rattle.quantizer.specs.Chroma.{chroma_table, folded_of, chroma_tests}
-use Rattle.quantizer.specs.Range.{highest, number_tests}
+use Rattle.quantizer.specs.Range.{highest}
 use Rattle.quantizer.proofs.Range.{number_passes}
 
 -- n entries of the table from the j-th on are v: the checker computes that, and an arm cites it
@@ -36,11 +32,5 @@ pub folded_legal : (q : ℕ) → q ≤ highest → folded_of q ≤ highest
 folded_legal q h = leb→le _ _ (every_at 52 (λ i. leb (folded_of i) highest) tt q (omega arith))
 
 module _ (qp : ℕ) (offset : ℤ) where
-  pub chroma_refused : {r : Refusal} → chain (number_tests qp) ≡ stop r → chain (chroma_tests qp offset) ≡ stop r
-  chroma_refused {r} e = chain_refused (number_tests qp) (test (inside (negsuc 11) (pos 12) offset) (refusal.Quantizer 0) ∷ []) r e
-
-  pub chroma_outside : qp ≤ highest → inside (negsuc 11) (pos 12) offset ≡ false → chain (chroma_tests qp offset) ≡ stop (refusal.Quantizer 0)
-  chroma_outside h e = simp (number_passes 0 qp h, e)
-
   pub chroma_legal : qp ≤ highest → inside (negsuc 11) (pos 12) offset ≡ true → chain (chroma_tests qp offset) ≡ pass
   chroma_legal h e = simp (number_passes 0 qp h, e)

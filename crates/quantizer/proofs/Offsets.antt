@@ -17,11 +17,11 @@ use Rattle.whole.specs.Notation.{minus}
 use Rattle.whole.specs.Range.{inside}
 use Rattle.whole.proofs.Order.{clip_le}
 use Rattle.quantizer.specs.Chroma.{chroma_of, chroma_tests, ChromaBuilds}
-use Rattle.quantizer.specs.Range.{highest, said_built, qp_of}
-use Rattle.quantizer.specs.declared.Built.{Built}
-use Rattle.quantizer.specs.declared.Built.TheVariants.{Legal, Refused}
+use Rattle.quantizer.specs.Range.{highest, qp_of}
 use Rattle.quantizer.specs.declared.Quantizer.{Quantizer}
 use Rattle.quantizer.proofs.Chroma.{folded_legal, chroma_legal}
+use Rattle.std.specs.Prelude.{Err, Ok, Result}
+use Rattle.refusal.specs.Number.{said}
 
 module _ (qp : ℕ) (offset : ℤ) where
   pub chroma_of_legal : chroma_of qp offset ≤ highest
@@ -33,22 +33,22 @@ module _ (qp : ℕ) (offset : ℤ) where
     pub allowed : inside (minus 12) (pos 12) offset ≡ true
 
   -- `handed` is the offset as the call took it
-  pub chroma_built : {handed : ℤ} {b : Built} {q : Quantizer} → ChromaBuilds qp handed b → handed ≡ offset → b ≡ Legal q → PlaneQuantizer q
+  pub chroma_built : {handed : ℤ} {b : Result Quantizer Refusal} {q : Quantizer} → ChromaBuilds qp handed b → handed ≡ offset → b ≡ Ok q → PlaneQuantizer q
   chroma_built {handed} {b} {q} builds same e =
       let p = subst (λ (z : ℤ). ChromaBuilds qp z b) same builds in
-      let v : chain (chroma_tests qp offset) ≡ pass = sym (says_same p.says) ∙ ap said_built e in
+      let v : chain (chroma_tests qp offset) ≡ pass = sym (says_same p.says) ∙ ap said e in
       record {
         is = sym (ap qp_of e) ∙ holds_new 0 v p.value;
         allowed = ((chain_exactly_if (chroma_tests qp offset)).passes.0 v).1.0;
       }
 
-  pub chroma_built_refused : {handed : ℤ} {b : Built} {r : Refusal} → qp ≤ highest → ChromaBuilds qp handed b → handed ≡ offset → b ≡ Refused r → inside (minus 12) (pos 12) offset ≡ false
+  pub chroma_built_refused : {handed : ℤ} {b : Result Quantizer Refusal} {r : Refusal} → qp ≤ highest → ChromaBuilds qp handed b → handed ≡ offset → b ≡ Err r → inside (minus 12) (pos 12) offset ≡ false
   chroma_built_refused {handed} {b} {r} legal builds same e = by (inside (minus 12) (pos 12) offset) refl
     where
       by : (t : Bool) → inside (minus 12) (pos 12) offset ≡ t → inside (minus 12) (pos 12) offset ≡ false
       by true t =
           let p = subst (λ (z : ℤ). ChromaBuilds qp z b) same builds in
-          absurd (pass_not_stop (sym (chroma_legal qp offset legal t) ∙ sym (says_same p.says) ∙ ap said_built e))
+          absurd (pass_not_stop (sym (chroma_legal qp offset legal t) ∙ sym (says_same p.says) ∙ ap said e))
       by false t = t
 
   -- a legal quantizer

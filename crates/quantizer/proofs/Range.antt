@@ -1,24 +1,23 @@
 -- What the test of a quantizer's number comes to.
 --     number_passes, number_fails, number_legal     the test of QUANTIZER, as a bound and back
---     legal, high                        the two verdicts
---     built_legal, built_stops, built_refused     what a caller learns from the two answers
+--     legal                              a number that is not above the highest passes its tests
+--     built_legal, built_stops           what a caller learns from the two answers
 --     same_built                         an answer is known by what it says and the number that comes back
 -- Assumes nothing.
-use mathlib.Core.Path.{◌≡◌, refl, sym, ap, ◌∙◌}
+use mathlib.Core.Path.{◌≡◌, sym, ap, ◌∙◌}
 use Prim.Native.Nat.{ℕ, ◌≤◌, ◌<◌, zero-le}
-use mathlib.Core.Bool.{Bool, true, false}
-use borrow.Author.Tests.{le-leb, lt-leb, leb-true, leb-false}
+use mathlib.Core.Bool.{true, false}
+use borrow.Author.Tests.{le-leb, lt-leb, leb-true}
 use lib.Dec.{leb}
 use Rattle.lists.specs.Chain.{pass, stop, chain}
-use Rattle.lists.proofs.Chain.{chain_exactly_if, holds_new, pass_not_stop}
+use Rattle.lists.proofs.Chain.{chain_exactly_if, holds_new}
 use Rattle.lists.proofs.Every.{both_true}
 use Rattle.refusal.proofs.Same.{says_same}
 use Rattle.refusal.specs.declared.Refusal.{Refusal}
-use Rattle.refusal.specs.declared.Refusal.TheVariants as refusal
-use Rattle.quantizer.specs.Range.{lowest, highest, quantizer_test, number_tests, said_built, qp_of, Builds}
+use Rattle.quantizer.specs.Range.{lowest, highest, quantizer_test, number_tests, qp_of, Builds}
 use Rattle.quantizer.specs.declared.Quantizer.{Quantizer}
-use Rattle.quantizer.specs.declared.Built.{Built}
-use Rattle.quantizer.specs.declared.Built.TheVariants.{Legal, Refused}
+use Rattle.std.specs.Prelude.{Err, Ok, Result}
+use Rattle.refusal.specs.Number.{said}
 
 -- no number is below the lowest: the test of QUANTIZER, at any place, is that of the highest
 module _ (place qp : ℕ) where
@@ -35,31 +34,21 @@ module _ (qp : ℕ) where
   pub legal : qp ≤ highest → chain (number_tests qp) ≡ pass
   legal h = simp (number_passes 0 qp h)
 
-  pub high : highest < qp → chain (number_tests qp) ≡ stop (refusal.Quantizer 0)
-  high h = simp (number_fails 0 qp h)
-
 -- an answer is known by what it says and the number that comes back
-pub same_built : (x y : Built) → said_built x ≡ said_built y → qp_of x ≡ qp_of y → x ≡ y
-same_built (Legal q) (Legal s) e f = λ i. Legal (record { qp = f i })
-same_built (Legal q) (Refused s) e f = cc
-same_built (Refused r) (Legal s) e f = cc
-same_built (Refused r) (Refused s) e f = let g : r ≡ s = cc in ap Refused g
+pub same_built : (x y : Result Quantizer Refusal) → said x ≡ said y → qp_of x ≡ qp_of y → x ≡ y
+same_built (Ok q) (Ok s) e f = λ i. Ok (record { qp = f i })
+same_built (Ok q) (Err s) e f = cc
+same_built (Err r) (Ok s) e f = cc
+same_built (Err r) (Err s) e f = let g : r ≡ s = cc in ap Err g
 
 -- what a caller learns from the two answers
 
 module _ (qp : ℕ) where
-  pub built_legal : {b : Built} {q : Quantizer} → Builds qp b → b ≡ Legal q → (q.qp ≡ qp) × (qp ≤ highest)
+  pub built_legal : {b : Result Quantizer Refusal} {q : Quantizer} → Builds qp b → b ≡ Ok q → (q.qp ≡ qp) × (qp ≤ highest)
   built_legal {b} {q} p e =
-      let v : chain (number_tests qp) ≡ pass = sym (says_same p.says) ∙ ap said_built e in
+      let v : chain (number_tests qp) ≡ pass = sym (says_same p.says) ∙ ap said e in
       (sym (ap qp_of e) ∙ holds_new 0 v p.value, number_legal 0 qp ((chain_exactly_if (number_tests qp)).passes.0 v).0)
 
   -- a caller can hand on this very refusal
-  pub built_stops : {b : Built} {r : Refusal} → Builds qp b → b ≡ Refused r → chain (number_tests qp) ≡ stop r
-  built_stops {b} {r} p e = sym (says_same p.says) ∙ ap said_built e
-
-  pub built_refused : {b : Built} {r : Refusal} → Builds qp b → b ≡ Refused r → highest < qp
-  built_refused {b} {r} p e = by (leb qp highest) refl
-    where
-      by : (t : Bool) → leb qp highest ≡ t → highest < qp
-      by true t = absurd (pass_not_stop (sym (legal qp (leb-true qp highest t)) ∙ built_stops p e))
-      by false t = leb-false qp highest t
+  pub built_stops : {b : Result Quantizer Refusal} {r : Refusal} → Builds qp b → b ≡ Err r → chain (number_tests qp) ≡ stop r
+  built_stops {b} {r} p e = sym (says_same p.says) ∙ ap said e

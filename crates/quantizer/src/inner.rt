@@ -10,6 +10,7 @@ const ZIGZAG: [usize; 16] = [0, 1, 4, 8, 5, 2, 3, 6, 9, 12, 13, 10, 7, 11, 14, 1
 const STEP: [usize; 16] = [0, 1, 5, 6, 2, 4, 7, 12, 3, 8, 11, 13, 9, 10, 14, 15];
 
 // The column of a class in the tables MF and V.
+// A match and no cast: the order is the tables', and each line is one of theirs.
 pub(crate) fn column(class: Class) -> u8
     ensures { result ≡ column_of class }
 {

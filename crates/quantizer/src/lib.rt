@@ -12,16 +12,11 @@ use refusal::Refusal;
 
 pub mod inner;
 
+// Its number is legal, since `new` alone makes one. No invariant says so: `number`, `period`, `mf` and `v` are public and promise for every number, so a
+// contract that needs it asks for `qp ≤ highest`.
 #[derive(Clone, Copy)]
 pub struct Quantizer {
     qp: u8,
-}
-
-// The answer where a quantizer is asked for.
-#[derive(Clone, Copy)]
-pub enum Built {
-    Legal(Quantizer),
-    Refused(Refusal),
 }
 
 // The position classes of a block's places.
@@ -38,16 +33,13 @@ impl Quantizer {
     pub const MAX: u8 = 51;
 
     // The quantizer of a number, or the refusal.
-    pub fn new(qp: u8) -> Built
+    pub fn new(qp: u8) -> Result<Quantizer, Refusal>
         ensures { Builds qp result }
     {
-        if qp < Self::MIN {
-            return Built::Refused(Refusal::Quantizer(0));
+        if !(Self::MIN..=Self::MAX).contains(&qp) {
+            return Err(Refusal::Quantizer(0));
         }
-        if Self::MAX < qp {
-            return Built::Refused(Refusal::Quantizer(0));
-        }
-        Built::Legal(Quantizer { qp })
+        Ok(Quantizer { qp })
     }
 
     pub fn number(self) -> u8
@@ -72,27 +64,26 @@ impl Quantizer {
     fn entry(self, class: Class) -> usize
         ensures { (result ≡ 3 * remainder_of self.qp + column_of class) × (result < 18) }
     {
-        (3 * self.remainder() + inner::column(class)) as usize
+        usize::from(3 * self.remainder() + inner::column(class))
     }
 
     // The coder's multiplier at the places of a class.
     pub fn mf(self, class: Class) -> u16
         ensures { result ≡ mf_of (remainder_of self.qp) class }
     {
-        let entry = self.entry(class);
-        MF[entry]
+        MF[self.entry(class)]
     }
 
     // The decoder's scale at the places of a class.
     pub fn v(self, class: Class) -> u8
         ensures { result ≡ v_of (remainder_of self.qp) class }
     {
-        let entry = self.entry(class);
-        V[entry]
+        V[self.entry(class)]
     }
 }
 
-// A row for each remainder: classes a, b, c.
+// A row for each remainder: classes a, b, c. Flat, here and in V, as `mf_table` and `v_table` (specs/Tables), of which `mf_of` and `v_of` read place
+// 3 * remainder + column.
 const MF: [u16; 18] = [
     13107, 5243, 8066, 11916, 4660, 7490, 10082, 4194, 6554, 9362, 3647, 5825, 8192, 3355, 5243,
     7282, 2893, 4559,
@@ -103,19 +94,15 @@ const V: [u8; 18] = [
 ];
 
 // The chroma quantizer of a luma quantizer and an offset, or the refusal.
-pub fn chroma_quantizer(qp: u8, offset: i32) -> Built
+pub fn chroma_quantizer(qp: u8, offset: i32) -> Result<Quantizer, Refusal>
     ensures { ChromaBuilds qp offset result }
 {
-    match Quantizer::new(qp) {
-        Built::Refused(refusal) => Built::Refused(refusal),
-        Built::Legal(_) => {
-            if !whole::inner::inside(offset, -12, 12) {
-                return Built::Refused(Refusal::Quantizer(0));
-            }
-            let moved = whole::inner::clip(qp as i32 + offset, Quantizer::MAX);
-            Quantizer::new(folded(moved))
-        }
+    Quantizer::new(qp)?;
+    if !whole::inner::inside(offset, -12, 12) {
+        return Err(Refusal::Quantizer(0));
     }
+    let moved = whole::inner::clip(i32::from(qp) + offset, Quantizer::MAX);
+    Quantizer::new(folded(moved))
 }
 
 // The standard's table, from 30 on.

@@ -37,17 +37,16 @@ use Rattle.octets.specs.Sum.{summed, sum_holds}
 use Rattle.record.specs.Records.{front_with, record_with, level_with, all_levels_in, record_of, record_whole, record_chroma, number_in, qp_in, is_whole, whole_mode_in, mode_in, level_in, levels_in, cb_offset_in, cr_offset_in, chroma_mode_in, length_in, first_in, length_from, record_at, record_place, chroma_next, colour_at}
 use Rattle.octets.specs.Sum.{record_sum}
 use Rattle.record.specs.declared.Expected.{Expected}
-use Rattle.record.specs.declared.Form.TheVariants.{Fine}
-use Rattle.record.specs.declared.Form.{Form}
-use Rattle.record.specs.declared.Walk.TheVariants.{Whole}
 use Rattle.record.specs.declared.Kind.{Kind}
-use Rattle.record.specs.declared.Walk.{Walk}
 use Rattle.record.proofs.Forms.{form_fine}
 use Rattle.octets.proofs.Back.{number_behind, number_before, number_level, sum_own}
 use Rattle.octets.proofs.Levels.{length_levels}
 use Rattle.record.proofs.Marks.{front_known, longest_known, fours, wholes, chromas, length_there, luma_mark, chroma_mark, expected_second}
 use Rattle.octets.proofs.Modes.{length_packed, packed_back}
 use Rattle.record.proofs.Walks.{end_known}
+use Rattle.std.specs.Prelude.{Ok, Result}
+use Rattle.refusal.specs.declared.Fault.{Fault}
+use Rattle.record.specs.declared.Faulty.{Faulty}
 
 -- ---- a record of any kind
 
@@ -82,12 +81,12 @@ module _ (expected : Expected) (bytes : List ℕ) (own : Own expected bytes) whe
     mark_own : number_at 0 (bytes ++ rest) ≡ number_at 0 bytes
     mark_own = number_before bytes rest 0 (omega (arith, six_own))
 
-    pub form_own : form_of expected (bytes ++ rest) ≡ Fine (length bytes)
+    pub form_own : form_of expected (bytes ++ rest) ≡ Ok (length bytes)
     form_own =
         let l = length_own in
         form_fine expected (bytes ++ rest) (omega (arith, six_own, length-append bytes rest)) (rw mark_own own.as_expected_law) (omega (arith, l, length-append bytes rest))
         (number_before bytes rest 2 (omega (arith, six_own)) ∙ own.numbered) (rw first_own own.sums)
-        ∙ ap Fine l
+        ∙ ap Ok l
 
     -- it begins with a chroma record's mark exactly if one is expected
     next_own : chroma_next (bytes ++ rest) ≡ expected.chroma
@@ -271,25 +270,25 @@ module _ (colour : Bool) (head : List ℕ) (made : ℕ → List ℕ) (n : ℕ) (
   abbrev place_of : ℕ → ℕ
   place_of k = length (head ++ parts k made)
 
-  step_own : (k : ℕ) → k < n → (w : Walk) → w ≡ Whole (place_of k) → onward colour (head ++ parts n made) k w ≡ Whole (place_of (suc k))
+  step_own : (k : ℕ) → k < n → (w : Result ℕ Faulty) → w ≡ Ok (place_of k) → onward colour (head ++ parts n made) k w ≡ Ok (place_of (suc k))
   unfolding parts
   step_own k h w e =
       let file = head ++ parts n made in
       let z : place_of k + length (made k) ≡ length (head ++ (parts k made ++ made k)) =
       omega (arith, length-append head (parts k made), length-append head (parts k made ++ made k), length-append (parts k made) (made k)) in
       ap (onward colour file k) e
-      ∙ ap (λ (f : Form). stepped f (place_of k))
+      ∙ ap (λ (f : Result ℕ Fault). stepped f (place_of k))
       (ap (form_of (expected_in colour k)) (part_behind head n k made h) ∙ form_own (expected_in colour k) (made k) (own k h) (parts (n - suc k) (λ i. made (suc k + i))))
-      ∙ ap Whole z
+      ∙ ap Ok z
 
-  walk_to : (m : ℕ) → m ≤ n → walk_of colour m (head ++ parts n made) (length head) ≡ Whole (place_of m)
+  walk_to : (m : ℕ) → m ≤ n → walk_of colour m (head ++ parts n made) (length head) ≡ Ok (place_of m)
   unfolding walk_of parts
   walk_to m h =
-      fold_keeps (λ k w. w ≡ Whole (place_of k)) m (onward colour (head ++ parts n made)) (Whole (length head))
-      (sym (ap (λ (l : List ℕ). Whole (length l)) (append-nil head)))
-      (λ k l e. step_own k (omega arith) (fold k (onward colour (head ++ parts n made)) (Whole (length head))) e)
+      fold_keeps (λ k w. w ≡ Ok (place_of k)) m (onward colour (head ++ parts n made)) (Ok (length head))
+      (sym (ap (λ (l : List ℕ). Ok (length l)) (append-nil head)))
+      (λ k l e. step_own k (omega arith) (fold k (onward colour (head ++ parts n made)) (Ok (length head))) e)
 
-  pub walk_own : walk_of colour n (head ++ parts n made) (length head) ≡ Whole (length (head ++ parts n made))
+  pub walk_own : walk_of colour n (head ++ parts n made) (length head) ≡ Ok (length (head ++ parts n made))
   walk_own = walk_to n (omega arith)
 
   -- nothing is sent back: all records are fine and nothing is left

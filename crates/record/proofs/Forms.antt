@@ -24,11 +24,11 @@ use Rattle.refusal.specs.Faults.{late}
 use Rattle.refusal.specs.declared.Fault.{Fault}
 use Rattle.refusal.proofs.Faults.{false_not_true}
 use Rattle.record.specs.declared.Expected.{Expected}
-use Rattle.record.specs.declared.Form.TheVariants.{Fine, Faulty}
 use Rattle.record.specs.declared.Kind.{Kind}
 use Rattle.record.proofs.Marks.{length_known_law, kind_known, length_there}
+use Rattle.std.specs.Prelude.{Err, Ok}
 
-pub fine_not_faulty : {long : ℕ} {fault : Fault} → Fine long ≡ Faulty fault → ⊥
+pub fine_not_faulty : {long : ℕ} {fault : Fault} → Ok long ≡ Err fault → ⊥
 fine_not_faulty e = let z : ◌≡◌ {A = ℕ} 0 1 = cc in omega arith
 
 module _ (expected : Expected) (bytes : List ℕ) where
@@ -43,33 +43,33 @@ module _ (expected : Expected) (bytes : List ℕ) where
     pub own : number_in bytes ≡ expected.number
     pub sum : sum_holds (first_in bytes) ≡ true
 
-  pub cut_mark : length bytes < 2 → form_of expected bytes ≡ Faulty CutMark
+  pub cut_mark : length bytes < 2 → form_of expected bytes ≡ Err CutMark
   unfolding form_of
   cut_mark h = simp (lt-leb 2 (length bytes) h)
 
   module _ (two : 2 ≤ length bytes) where
-    pub mark_wrong : as_expected expected.chroma (kind_of (number_at 0 bytes)) ≡ false → form_of expected bytes ≡ Faulty Mark
+    pub mark_wrong : as_expected expected.chroma (kind_of (number_at 0 bytes)) ≡ false → form_of expected bytes ≡ Err Mark
     unfolding form_of
     mark_wrong e = simp (le-leb 2 (length bytes) two, e)
 
     module _ (marked : as_expected expected.chroma (kind_of (number_at 0 bytes)) ≡ true) where
-      pub cut_rest : length bytes < length_in bytes → form_of expected bytes ≡ Faulty CutRest
+      pub cut_rest : length bytes < length_in bytes → form_of expected bytes ≡ Err CutRest
       unfolding form_of
       cut_rest h = simp (le-leb 2 (length bytes) two, marked, lt-leb (length_in bytes) (length bytes) h)
 
       module _ (room : length_in bytes ≤ length bytes) where
-        pub number_wrong : (number_in bytes ≡ expected.number → ⊥) → form_of expected bytes ≡ Faulty Number
+        pub number_wrong : (number_in bytes ≡ expected.number → ⊥) → form_of expected bytes ≡ Err Number
         unfolding form_of
         number_wrong e =
             simp (le-leb 2 (length bytes) two, marked, le-leb (length_in bytes) (length bytes) room, ne_eqb (number_in bytes) expected.number e)
 
         module _ (own : number_in bytes ≡ expected.number) where
-          pub sum_wrong : sum_holds (first_in bytes) ≡ false → form_of expected bytes ≡ Faulty Sum
+          pub sum_wrong : sum_holds (first_in bytes) ≡ false → form_of expected bytes ≡ Err Sum
           unfolding form_of
           sum_wrong e =
               simp (le-leb 2 (length bytes) two, marked, le-leb (length_in bytes) (length bytes) room, eq-eqb (number_in bytes) expected.number own, e)
 
-          pub form_fine : sum_holds (first_in bytes) ≡ true → form_of expected bytes ≡ Fine (length_in bytes)
+          pub form_fine : sum_holds (first_in bytes) ≡ true → form_of expected bytes ≡ Ok (length_in bytes)
           unfolding form_of
           form_fine e =
               simp (le-leb 2 (length bytes) two, marked, le-leb (length_in bytes) (length bytes) room, eq-eqb (number_in bytes) expected.number own, e)
@@ -87,11 +87,11 @@ module _ (expected : Expected) (bytes : List ℕ) where
 
   -- ---- a form by its verdict
 
-  pub formed_pass : (long : ℕ) → form_of expected bytes ≡ Fine long → (chain (form_tests expected bytes) ≡ pass) × (long ≡ length_in bytes)
+  pub formed_pass : (long : ℕ) → form_of expected bytes ≡ Ok long → (chain (form_tests expected bytes) ≡ pass) × (long ≡ length_in bytes)
   unfolding form_of
   formed_pass long e = by (chain (form_tests expected bytes)) refl e
     where
-      by : (v : Verdict Fault) → chain (form_tests expected bytes) ≡ v → formed v (length_in bytes) ≡ Fine long
+      by : (v : Verdict Fault) → chain (form_tests expected bytes) ≡ v → formed v (length_in bytes) ≡ Ok long
           → (chain (form_tests expected bytes) ≡ pass) × (long ≡ length_in bytes)
       by pass p q = (p, cc)
       by (stop f) p q = absurd (fine_not_faulty (sym q))
@@ -112,5 +112,5 @@ module _ (expected : Expected) (bytes : List ℕ) where
         sum = a.1.1.1.1.0;
       }
 
-  pub fine_sound : (long : ℕ) → form_of expected bytes ≡ Fine long → (long ≡ length_in bytes) × FineForm
+  pub fine_sound : (long : ℕ) → form_of expected bytes ≡ Ok long → (long ≡ length_in bytes) × FineForm
   fine_sound long e = let v = formed_pass long e in (v.1, passed_sound v.0)

@@ -2,9 +2,9 @@
 --     found                         what holds of every kind holds of one that a mark names
 --     front_known, length_known_law     a known kind's front holds mark and number, so its record has six bytes or more
 --     longest_known, longest_marked     no kind's record is longer than that of the 4x4 kind
+--     kind_found                    the first kind that has the mark is the one that it names
 --     mark_known                    a kind that a mark names has this mark
---     length_named, length_none     the lengths, by the mark
---     as_expected_chroma, as_expected_none, as_expected_other     whether a mark is as expected, by the mark and its record's length
+--     as_expected_chroma            the chroma kind's mark is as expected exactly where a chroma record is to stand
 --     kind_known                    a mark that is as expected is a kind's
 --     luma_mark, chroma_mark        and the chroma kind's exactly where a chroma record is expected
 --     length_cut, length_there      the length of the record that bytes begin with
@@ -14,15 +14,17 @@
 --     expected_second               a colour file's second record is a chroma record
 -- Assumes nothing.
 use mathlib.Core.Path.{◌≡◌, refl, sym, ap, subst, ◌∙◌}
-use mathlib.Core.Bool.{Bool, true, false, cond, not}
+use mathlib.Core.Bool.{Bool, true, false, cond}
 use mathlib.Core.List.{List, [], ◌∷◌}
 use Prim.Native.Nat.{ℕ, ◌+◌, ◌*◌, ◌/◌, ◌%◌, ◌<◌, ◌≤◌}
 use native.Mathlib.Omega.{arith}
 use borrow.Author.Tests.{eq-eqb, ne_eqb, eqb-true, le-leb, lt-leb}
 use lib.Dec.{eqb}
 use lib.ListN.{length}
+use Rattle.std.specs.List.{find}
+use Rattle.std.specs.Prelude.{Some}
 use Rattle.refusal.proofs.Faults.{false_not_true}
-use Rattle.record.specs.Kinds.{length_of, in_fours, in_whole, in_chroma, kinds, Known, unknown, known, kind_in, kind_of, length_known, record_length, as_expected, expected_luma, expected_chroma, per_macroblock, expected_in}
+use Rattle.record.specs.Kinds.{length_of, in_fours, in_whole, in_chroma, kinds, Known, unknown, known, kind_in, kind_of, known_by, length_known, record_length, as_expected, expected_luma, expected_chroma, per_macroblock, expected_in}
 use Rattle.octets.specs.Numbers.{number_at}
 use Rattle.record.specs.Records.{length_in}
 use Rattle.record.specs.declared.Kind.{Kind}
@@ -70,6 +72,15 @@ marked (j ∷ ks) mark k e = by (marked ks mark k) (eqb mark j.mark) refl e
     by rest true p q = sym (ap (λ (i : Kind). i.mark) (known_inner q)) ∙ sym (eqb-true mark j.mark p)
     by rest false p q = rest q
 
+-- the first kind that has the mark
+pub kind_found : (mark : ℕ) (ks : List Kind) → known_by (find (λ k. eqb mark k.mark) ks) ≡ kind_in ks mark
+kind_found mark [] = refl
+kind_found mark (k ∷ ks) = by (eqb mark k.mark) (kind_found mark ks)
+  where
+    by : (b : Bool) → known_by (find (λ j. eqb mark j.mark) ks) ≡ kind_in ks mark → known_by (cond b (Some k) (find (λ j. eqb mark j.mark) ks)) ≡ cond b (known k) (kind_in ks mark)
+    by true rest = refl
+    by false rest = rest
+
 module _ (mark : ℕ) (k : Kind) (is : kind_of mark ≡ known k) where
   pub mark_known : k.mark ≡ mark
   unfolding kind_of
@@ -101,13 +112,6 @@ module _ (mark : ℕ) (k : Kind) (is : kind_of mark ≡ known k) where
 module _ (mark : ℕ) where
   -- ---- its length
 
-  pub length_named : (k : Kind) → kind_of k.mark ≡ known k → mark ≡ k.mark → record_length mark ≡ length_of k
-  length_named k is e = ap record_length e ∙ ap length_known is
-
-  pub length_none : (mark ≡ in_fours.mark → ⊥) → (mark ≡ in_whole.mark → ⊥) → (mark ≡ in_chroma.mark → ⊥) → record_length mark ≡ 0
-  unfolding kind_of
-  length_none n m o = simp (ne_eqb mark in_fours.mark n, ne_eqb mark in_whole.mark m, ne_eqb mark in_chroma.mark o)
-
   pub longest_marked : record_length mark ≤ length_of in_fours
   longest_marked = by (kind_of mark) refl
     where
@@ -123,24 +127,6 @@ module _ (mark : ℕ) where
       by : (b : Bool) → as_expected b (known in_chroma) ≡ b
       by true = refl
       by false = refl
-
-  pub as_expected_none : (chroma : Bool) → record_length mark < 1 → as_expected chroma (kind_of mark) ≡ false
-  as_expected_none chroma e = by (kind_of mark) e
-    where
-      by : (k : Known) → length_known k < 1 → as_expected chroma k ≡ false
-      by unknown q = refl
-      by (known k) q = absurd (omega arith)
-
-  pub as_expected_other : (chroma : Bool) → (mark ≡ in_chroma.mark → ⊥) → 1 ≤ record_length mark → as_expected chroma (kind_of mark) ≡ not chroma
-  as_expected_other chroma n e = by (kind_of mark) refl e
-    where
-      turned_round : (b : Bool) → cond b false true ≡ not b
-      turned_round true = refl
-      turned_round false = refl
-
-      by : (k : Known) → kind_of mark ≡ k → 1 ≤ length_known k → as_expected chroma k ≡ not chroma
-      by unknown p q = absurd (omega arith)
-      by (known k) p q = rw (ne_eqb k.mark in_chroma.mark (λ z. n (sym (mark_known mark k p) ∙ z))) (turned_round chroma)
 
   module _ (chroma : Bool) (is : as_expected chroma (kind_of mark) ≡ true) where
     pub length_known_law : 6 ≤ record_length mark

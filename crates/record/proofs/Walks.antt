@@ -28,19 +28,18 @@ use Rattle.lists.specs.Fold.{fold}
 use Rattle.lists.proofs.Chain.{pass_not_stop, chain_exactly_if}
 use Rattle.lists.proofs.Fold.{fold_more}
 use Rattle.refusal.specs.declared.Refusal.{Refusal}
-use Rattle.record.specs.Faults.{form_tests, formed, form_of, stepped, onward, walk_of, surplus, left_tests, walk_said}
+use Rattle.record.specs.Faults.{broken, form_tests, formed, form_of, stepped, onward, walk_of, surplus, left_tests, walk_said}
 use Rattle.refusal.specs.Faults.{refusal_of, AllThere}
 use Rattle.record.specs.Kinds.{length_of, in_fours, in_whole, in_chroma, known, kind_of, as_expected, expected_in}
 use Rattle.octets.specs.Numbers.{number_at}
 use Rattle.record.specs.Records.{is_whole, length_from, record_at, record_place}
 use Rattle.refusal.specs.declared.Fault.{Fault}
 use Rattle.record.specs.declared.Expected.{Expected}
-use Rattle.record.specs.declared.Form.TheVariants.{Fine}
 use Rattle.record.specs.declared.Kind.{Kind}
-use Rattle.record.specs.declared.Walk.{Walk}
-use Rattle.record.specs.declared.Walk.TheVariants.{Whole, Broken}
 use Rattle.record.proofs.Forms.{FineForm, passed_sound, fine_sound, late_room}
 use Rattle.record.proofs.Marks.{front_known, kind_whole, kind_fours, kind_chroma, luma_mark, chroma_mark}
+use Rattle.std.specs.Prelude.{Err, Ok, Result}
+use Rattle.record.specs.declared.Faulty.{Faulty}
 
 -- a number from a place on
 pub number_drop : (file : List ℕ) (place k : ℕ) → number_at k (drop place file) ≡ number_at (place + k) file
@@ -51,22 +50,31 @@ number_drop file place k =
 pub mark_drop : (file : List ℕ) (place : ℕ) → number_at 0 (drop place file) ≡ number_at place file
 mark_drop file place = let z : place + 0 ≡ place = omega arith in rw z at (number_drop file place 0)
 
-whole_not_broken : {place other : ℕ} {fault : Fault} → Whole place ≡ Broken fault other → ⊥
+-- a broken walk's fault and place are its own
+abbrev fault_in : Result ℕ Faulty → Fault → Fault
+fault_in (Ok place) other = other
+fault_in (Err it) other = it.fault
+
+abbrev place_in : Result ℕ Faulty → ℕ
+place_in (Ok place) = 0
+place_in (Err it) = it.place
+
+whole_not_broken : {place other : ℕ} {fault : Fault} → Ok place ≡ broken fault other → ⊥
 whole_not_broken e = let z : ◌≡◌ {A = ℕ} 0 1 = cc in omega arith
 
 -- ---- what is sent back of a file
 
 module _ (file : List ℕ) where
   -- what a walk that a fault has stopped sends back
-  pub said_broken : {w : Walk} {fault : Fault} {place : ℕ} → w ≡ Broken fault place → {long : ℕ} → long ≡ length_from place file
+  pub said_broken : {w : Result ℕ Faulty} {fault : Fault} {place : ℕ} → w ≡ broken fault place → {long : ℕ} → long ≡ length_from place file
       → {r : Refusal} → r ≡ refusal_of fault place long (length file) → walk_said file w ≡ stop r
   said_broken {w} {fault} {place} e {long} l {r} q = rw (e, q, l)
 
   -- and one that came through
-  pub said_left : (end : ℕ) → end < length file → (w : Walk) → w ≡ Whole end → walk_said file w ≡ stop (surplus (length file))
+  pub said_left : (end : ℕ) → end < length file → (w : Result ℕ Faulty) → w ≡ Ok end → walk_said file w ≡ stop (surplus (length file))
   said_left end h w e = rw e (simp (lt-leb (length file) end h))
 
-  pub said_done : (end : ℕ) → length file ≤ end → (w : Walk) → w ≡ Whole end → walk_said file w ≡ pass
+  pub said_done : (end : ℕ) → length file ≤ end → (w : Result ℕ Faulty) → w ≡ Ok end → walk_said file w ≡ pass
   said_done end h w e = rw e (simp (le-leb (length file) end h))
 
 -- ---- a record that is lent
@@ -128,22 +136,22 @@ module _ (file : List ℕ) (start : ℕ) where
 
 module _ (colour : Bool) (file : List ℕ) where
   -- a record whose form is fine ends inside the file
-  pub fine_inside : (k place long : ℕ) → form_of (expected_in colour k) (drop place file) ≡ Fine long → (6 ≤ long) × (place + long ≤ length file)
+  pub fine_inside : (k place long : ℕ) → form_of (expected_in colour k) (drop place file) ≡ Ok long → (6 ≤ long) × (place + long ≤ length file)
   fine_inside k place long e =
       let s = fine_sound (expected_in colour k) (drop place file) long e in
       (omega (arith, s.0, s.1.some), omega (arith, s.0, s.1.some, s.1.room, length-drop place file))
 
   pub walk_more : (n start : ℕ) → walk_of colour (n + 1) file start ≡ onward colour file n (walk_of colour n file start)
   unfolding walk_of
-  walk_more n start = fold_more n (onward colour file) (Whole start)
+  walk_more n start = fold_more n (onward colour file) (Ok start)
 
-  stays : (n start : ℕ) {fault : Fault} {place : ℕ} → walk_of colour n file start ≡ Broken fault place → (d : ℕ) → walk_of colour (n + d) file start ≡ Broken fault place
+  stays : (n start : ℕ) {fault : Fault} {place : ℕ} → walk_of colour n file start ≡ broken fault place → (d : ℕ) → walk_of colour (n + d) file start ≡ broken fault place
   stays n start {fault} {place} e zero = let z : n + zero ≡ n = omega arith in rw z e
   stays n start {fault} {place} e (suc d) =
       let z : n + suc d ≡ n + d + 1 = omega arith in
       rw (z, walk_more (n + d) start, stays n start e d)
 
-  pub walk_stays : (n m start : ℕ) {fault : Fault} {place : ℕ} → n ≤ m → walk_of colour n file start ≡ Broken fault place → walk_of colour m file start ≡ Broken fault place
+  pub walk_stays : (n m start : ℕ) {fault : Fault} {place : ℕ} → n ≤ m → walk_of colour n file start ≡ broken fault place → walk_of colour m file start ≡ broken fault place
   walk_stays n m start {fault} {place} h e = let z : n + (m - n) ≡ m = omega arith in rw z at (stays n start e (m - n))
 
   -- ---- where a walk stands
@@ -155,46 +163,46 @@ module _ (colour : Bool) (file : List ℕ) where
 
     -- a fault has stopped the walk
     abbrev pub Stopped : ℕ → Type 0
-    Stopped n = (fault : Fault) × (place : ℕ) × (walk_of colour n file start ≡ Broken fault place)
+    Stopped n = (fault : Fault) × (place : ℕ) × (walk_of colour n file start ≡ broken fault place)
 
     -- one record more, from where the walk stands
-    abbrev went : ℕ → Verdict Fault → Walk
+    abbrev went : ℕ → Verdict Fault → Result ℕ Faulty
     went m v = stepped (formed v (length_from (record_place m file start) file)) (record_place m file start)
 
-    next : (m : ℕ) → walk_of colour m file start ≡ Whole (record_place m file start) → walk_of colour (m + 1) file start ≡ went m (verdict_at m)
+    next : (m : ℕ) → walk_of colour m file start ≡ Ok (record_place m file start) → walk_of colour (m + 1) file start ≡ went m (verdict_at m)
     unfolding form_of
     next m e = walk_more m start ∙ ap (onward colour file m) e
 
-    pub walk_stands : (m : ℕ) → (walk_of colour m file start ≡ Whole (record_place m file start)) ⊎ Stopped m
+    pub walk_stands : (m : ℕ) → (walk_of colour m file start ≡ Ok (record_place m file start)) ⊎ Stopped m
     unfolding walk_of record_place fold
     walk_stands zero = inl refl
     walk_stands (suc m) = ⊎_elim (λ e. by (verdict_at m) (rw (add-one m) at (next m e))) (λ s. inr (s.0, s.1, ap (onward colour file m) s.2)) (walk_stands m)
       where
-        by : (v : Verdict Fault) → walk_of colour (suc m) file start ≡ went m v → (walk_of colour (suc m) file start ≡ Whole (record_place (suc m) file start)) ⊎ Stopped (suc m)
+        by : (v : Verdict Fault) → walk_of colour (suc m) file start ≡ went m v → (walk_of colour (suc m) file start ≡ Ok (record_place (suc m) file start)) ⊎ Stopped (suc m)
         by pass e = inl e
         by (stop f) e = inr (f, record_place m file start, e)
 
     -- a walk that came through stood at each record's place
-    reached : (n m : ℕ) {end : ℕ} → m ≤ n → walk_of colour n file start ≡ Whole end → walk_of colour m file start ≡ Whole (record_place m file start)
+    reached : (n m : ℕ) {end : ℕ} → m ≤ n → walk_of colour n file start ≡ Ok end → walk_of colour m file start ≡ Ok (record_place m file start)
     reached n m {end} h e =
         ⊎_elim (λ q. q) (λ s. absurd (whole_not_broken (sym e ∙ walk_stays m n start h s.2))) (walk_stands m)
 
     -- ---- it comes through exactly if every record's own tests pass
 
-    whole_only : (n : ℕ) {end : ℕ} → walk_of colour n file start ≡ Whole end → (m : ℕ) → m < n → verdict_at m ≡ pass
+    whole_only : (n : ℕ) {end : ℕ} → walk_of colour n file start ≡ Ok end → (m : ℕ) → m < n → verdict_at m ≡ pass
     whole_only n {end} e m h =
         by (verdict_at m) (sym (next m (reached n m (omega arith) e)) ∙ reached n (m + 1) (omega arith) e)
       where
-        by : (v : Verdict Fault) → went m v ≡ Whole (record_place (m + 1) file start) → v ≡ pass
+        by : (v : Verdict Fault) → went m v ≡ Ok (record_place (m + 1) file start) → v ≡ pass
         by pass d = refl
         by (stop f) d = absurd (whole_not_broken (sym d))
 
-    whole_if : (n : ℕ) → ((m : ℕ) → m < n → verdict_at m ≡ pass) → walk_of colour n file start ≡ Whole (record_place n file start)
+    whole_if : (n : ℕ) → ((m : ℕ) → m < n → verdict_at m ≡ pass) → walk_of colour n file start ≡ Ok (record_place n file start)
     unfolding walk_of record_place fold
     whole_if zero h = refl
     whole_if (suc n) h = (rw (add-one n) at (next n (whole_if n (λ m l. h m (omega arith))))) ∙ ap (went n) (h n (omega arith))
 
-    pub walk_whole_exactly_if : (n : ℕ) → (walk_of colour n file start ≡ Whole (record_place n file start)) ↔ ((m : ℕ) → m < n → verdict_at m ≡ pass)
+    pub walk_whole_exactly_if : (n : ℕ) → (walk_of colour n file start ≡ Ok (record_place n file start)) ↔ ((m : ℕ) → m < n → verdict_at m ≡ pass)
     walk_whole_exactly_if n = (whole_only n, whole_if n)
 
     -- ---- it stops at a record exactly if this one's own tests say this fault, and those of all before it pass
@@ -202,11 +210,11 @@ module _ (colour : Bool) (file : List ℕ) where
     abbrev pub FirstFault : ℕ → Fault → ℕ → Type 0
     FirstFault n fault place = (m : ℕ) × (m < n) × (place ≡ record_place m file start) × ((k : ℕ) → k < m → verdict_at k ≡ pass) × (verdict_at m ≡ stop fault)
 
-    breaks_if : (n : ℕ) (fault : Fault) (place : ℕ) → FirstFault n fault place → walk_of colour n file start ≡ Broken fault place
+    breaks_if : (n : ℕ) (fault : Fault) (place : ℕ) → FirstFault n fault place → walk_of colour n file start ≡ broken fault place
     breaks_if n fault place (m, h, p, f, v) =
-        walk_stays (m + 1) n start (omega arith) (next m (whole_if m f) ∙ ap (went m) v ∙ ap (Broken fault) (sym p))
+        walk_stays (m + 1) n start (omega arith) (next m (whole_if m f) ∙ ap (went m) v ∙ ap (broken fault) (sym p))
 
-    breaks_only : (n : ℕ) (fault : Fault) (place : ℕ) → walk_of colour n file start ≡ Broken fault place → FirstFault n fault place
+    breaks_only : (n : ℕ) (fault : Fault) (place : ℕ) → walk_of colour n file start ≡ broken fault place → FirstFault n fault place
     unfolding walk_of fold
     breaks_only zero fault place e = absurd (whole_not_broken e)
     breaks_only (suc n) fault place e =
@@ -218,18 +226,18 @@ module _ (colour : Bool) (file : List ℕ) where
         later : FirstFault n fault place → FirstFault (suc n) fault place
         later (m, h, p, f, v) = (m, omega arith, p, f, v)
 
-        by : (v : Verdict Fault) → verdict_at n ≡ v → walk_of colour n file start ≡ Whole (record_place n file start) → went n v ≡ Broken fault place → FirstFault (suc n) fault place
+        by : (v : Verdict Fault) → verdict_at n ≡ v → walk_of colour n file start ≡ Ok (record_place n file start) → went n v ≡ broken fault place → FirstFault (suc n) fault place
         by pass v q d = absurd (whole_not_broken d)
         by (stop g) v q d =
-            let p : place ≡ record_place n file start = cc in
-            let f : g ≡ fault = cc in
+            let p : place ≡ record_place n file start = sym (ap place_in d) in
+            let f : g ≡ fault = ap (λ w. fault_in w g) d in
             (n, omega arith, p, whole_only n q, v ∙ ap stop f)
 
-    pub walk_breaks_exactly_if : (n : ℕ) (fault : Fault) (place : ℕ) → (walk_of colour n file start ≡ Broken fault place) ↔ FirstFault n fault place
+    pub walk_breaks_exactly_if : (n : ℕ) (fault : Fault) (place : ℕ) → (walk_of colour n file start ≡ broken fault place) ↔ FirstFault n fault place
     walk_breaks_exactly_if n fault place = (breaks_only n fault place, breaks_if n fault place)
 
     -- a walk that number or sum has stopped stands at a record that is all there: what a place inside it asks
-    pub late_there : (n : ℕ) (fault : Fault) (place : ℕ) → walk_of colour n file start ≡ Broken fault place → AllThere fault place (length_from place file) (length file)
+    pub late_there : (n : ℕ) (fault : Fault) (place : ℕ) → walk_of colour n file start ≡ broken fault place → AllThere fault place (length_from place file) (length file)
     late_there n fault place e =
         let f = breaks_only n fault place e in
         let at : ℕ = record_place f.0 file start in
@@ -274,7 +282,7 @@ module _ (colour : Bool) (file : List ℕ) where
         if_left : Left n r → walk_said file (walk_of colour n file start) ≡ stop r
         if_left h = said_left file (record_place n file start) h.more (walk_of colour n file start) (whole_if n h.fine) ∙ ap stop (sym h.is)
 
-        by : walk_of colour n file start ≡ Whole (record_place n file start) → RefusedWith (left_tests file (record_place n file start)) r → Faulted n r ⊎ Left n r
+        by : walk_of colour n file start ≡ Ok (record_place n file start) → RefusedWith (left_tests file (record_place n file start)) r → Faulted n r ⊎ Left n r
         by q (inl e) = inr (record { fine = whole_only n q; more = leb-false (length file) (record_place n file start) e.0; is = e.1 })
         by q (inr e) = absurd e.1
 
@@ -289,7 +297,7 @@ module _ (colour : Bool) (file : List ℕ) where
 
     -- ---- what code needs to lend record m of a walk that came through
 
-    module _ (n : ℕ) (end : ℕ) (came : walk_of colour n file start ≡ Whole end) where
+    module _ (n : ℕ) (end : ℕ) (came : walk_of colour n file start ≡ Ok end) where
       pub end_known : end ≡ record_place n file start
       end_known = cc (reached n n (omega arith) came)
 

@@ -8,7 +8,7 @@ use lib.ListN.{replicate, set}
 use Rattle.lists.specs.Chain.{pass, stop, chain}
 use Rattle.lists.specs.Fold.{fold}
 use Rattle.lists.specs.Tab.{tab}
-use Rattle.record.specs.Faults.{form_tests, form_of, walk_of}
+use Rattle.record.specs.Faults.{broken, form_tests, form_of, walk_of}
 use Rattle.record.specs.Kinds.{kind_of, record_length, expected_luma, expected_in}
 use Rattle.octets.specs.Modes.{packed}
 use Rattle.octets.specs.Numbers.{level_bytes}
@@ -16,7 +16,6 @@ use Rattle.record.specs.Records.{record_of, record_with, length_in}
 use Rattle.octets.specs.Sum.{summed, sum_holds}
 use Rattle.octets.specs.Sum.{sum_of}
 use Rattle.refusal.specs.declared.Fault.TheVariants.{CutMark, Mark, CutRest, Number, Sum}
-use Rattle.record.specs.declared.Walk.TheVariants.{Broken}
 
 -- a record's length by its mark: "527 bytes", "520 bytes", "265 bytes", and none
 pub lengths : record_length (77 * 256 + 66) ∷ record_length (77 * 256 + 54) ∷ record_length (77 * 256 + 67) ∷ record_length (77 * 256 + 68) ∷ [] ≡ 527 ∷ 520 ∷ 265 ∷ 0 ∷ []
@@ -26,7 +25,7 @@ lengths = refl
 -- a file of a head's length and one byte, an unknown mark, a mark alone
 pub cuts :
     walk_of false 1 (0 ∷ 77 ∷ []) 1 ∷ walk_of false 1 (0 ∷ 77 ∷ 0 ∷ []) 1 ∷ walk_of false 1 (0 ∷ 77 ∷ 54 ∷ []) 1 ∷ walk_of false 1 [] 1 ∷ []
-    ≡ Broken CutMark 1 ∷ Broken Mark 1 ∷ Broken CutRest 1 ∷ Broken CutMark 1 ∷ []
+    ≡ broken CutMark 1 ∷ broken Mark 1 ∷ broken CutRest 1 ∷ broken CutMark 1 ∷ []
 unfolding walk_of fold form_of kind_of length_in expected_in
 cuts = refl
 

@@ -1,26 +1,28 @@
 -- Levels of a block that are all 0, by the bytes that they are.
 --     byte_of, zero_bytes           their bytes, which are then 0
---     zero_sum, other_byte         so their sum says it, and so does one byte that is another
+--     zero_part, other_byte        that they are as many zeros says it, and so does one byte that is another
 --     same_flag                    an answer of yes or no is known by what it says yes to
 -- Assumes nothing.
 use mathlib.Core.Path.{◌≡◌, refl, sym, ap, subst, ◌∙◌}
-use mathlib.Core.Bool.{Bool, true, false, false≢true}
+use mathlib.Core.Bool.{Bool, true, false}
 use mathlib.Core.List.{List}
 use mathlib.Core.Logic.{◌↔◌}
 use Prim.Native.Nat.{ℕ, ◌+◌, ◌*◌, ◌/◌, ◌<◌}
 use native.Mathlib.Omega.{arith}
-use borrow.Author.Tests.{eqb-true, eqb-false, eq-eqb}
+use borrow.Author.Tests.{eqb-true, eqb-false}
 use lib.Dec.{eqb}
 use lib.IntN.{ℤ, pos}
-use lib.ListN.{get_or}
+use lib.ListN.{length, get_or, replicate, get_or-replicate}
+use lib.Seq.{ext_get_or}
 use mir.Syntax.{w16}
 use mir.Val.{of_z, to_z}
 use mir.ValLaws.{of_z-to_z}
+use Rattle.std.specs.Cmp.Lexicographic.{pointwise}
+use Rattle.std.proofs.lemmas.Bool.Decides.{Decides-eqb}
+use Rattle.std.proofs.lemmas.Slice.Eq.{slice_eq-Decides}
 use Rattle.lists.specs.Bytes.{Bytes}
 use Rattle.lists.specs.Tab.{tab}
-use Rattle.lists.specs.Total.{total}
 use Rattle.lists.proofs.Tab.{get_d_tab, tab_same}
-use Rattle.lists.proofs.Total.{total_low, term_low}
 use Rattle.octets.specs.Numbers.{number_at}
 use Rattle.record.specs.Kinds.{in_fours}
 use Rattle.record.specs.Records.{level_in, levels_in}
@@ -66,14 +68,17 @@ module _ (part : List ℕ) (block : ℕ) where
       by_pairs (λ i. byte_of part block i ≡ 0) k (omega arith) (omega arith)
 
   module _ (bytes : Bytes part) where
-    pub other_byte : (k : ℕ) → k < 32 → (byte_of part block k ≡ 0 → ⊥) → (false ≡ true) ↔ AllZero part block
-    other_byte k l h = (λ z. absurd (false≢true z), λ e. absurd (h (zero_bytes bytes e k l)))
+    pub other_byte : (k : ℕ) → k < 32 → (byte_of part block k ≡ 0 → ⊥) → (eqb (byte_of part block k) 0 ≡ true) ↔ AllZero part block
+    other_byte k l h = (λ z. absurd (h (eqb-true (byte_of part block k) 0 z)), λ e. absurd (h (zero_bytes bytes e k l)))
 
-    pub zero_sum : {sum : ℕ} → sum ≡ total 32 (byte_of part block) → (eqb sum 0 ≡ true) ↔ AllZero part block
-    zero_sum {sum} is = (
-      λ z. zero_levels (λ k l. omega (arith, eqb-true sum 0 z, term_low 32 (byte_of part block) k l)),
-      λ e. eq-eqb sum 0 (is ∙ omega (arith, total_low 32 (byte_of part block) 0 (λ k l. omega (arith, zero_bytes bytes e k l)))),
-    )
+    pub zero_part : (w : List ℕ) (r : Bool) → length w ≡ 32 → ((k : ℕ) → k < 32 → get_or w k 0 ≡ byte_of part block k)
+        → r ≡ pointwise eqb w (replicate 32 0) → (r ≡ true) ↔ AllZero part block
+    zero_part w r long is e =
+        let same = slice_eq-Decides Decides-eqb w (replicate 32 0) r e in (
+          λ z. zero_levels (λ k l. sym (is k l) ∙ ap (λ (v : List ℕ). get_or v k 0) (same.0 z) ∙ get_or-replicate 32 k 0 0 l),
+          λ z. same.1 (ext_get_or 0 w (replicate 32 0) long
+              (λ k h. let l : k < 32 = omega arith in is k l ∙ zero_bytes bytes z k l ∙ sym (get_or-replicate 32 k 0 0 l))),
+        )
 
 pub same_flag : {P : Type 0} (x y : Bool) → (x ≡ true) ↔ P → (y ≡ true) ↔ P → x ≡ y
 same_flag true y p q = sym (q.1 (p.0 refl))

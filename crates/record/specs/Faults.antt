@@ -15,10 +15,8 @@ use Rattle.octets.specs.Sum.{sum_holds}
 use Rattle.refusal.specs.declared.Fault.TheVariants.{CutMark, Mark, CutRest, Number, Sum}
 use Rattle.refusal.specs.declared.Fault.{Fault}
 use Rattle.record.specs.declared.Expected.{Expected}
-use Rattle.record.specs.declared.Form.TheVariants.{Fine, Faulty}
-use Rattle.record.specs.declared.Form.{Form}
-use Rattle.record.specs.declared.Walk.TheVariants.{Whole, Broken}
-use Rattle.record.specs.declared.Walk.{Walk}
+use Rattle.std.specs.Prelude.{Err, Ok, Result}
+use Rattle.record.specs.declared.Faulty.{Faulty}
 
 -- bytes after the last record, in a file of so many bytes (02, request 01)
 abbrev pub surplus : ℕ → Refusal
@@ -34,37 +32,41 @@ form_tests expected bytes =
     ∷ test (sum_holds (first_in bytes)) Sum ∷ []
 
 -- the record's length where its form is fine, or its fault
-abbrev pub formed : Verdict Fault → ℕ → Form
-formed pass long = Fine long
-formed (stop fault) long = Faulty fault
+abbrev pub formed : Verdict Fault → ℕ → Result ℕ Fault
+formed pass long = Ok long
+formed (stop fault) long = Err fault
 
-unfoldable pub form_of : Expected → List ℕ → Form
+unfoldable pub form_of : Expected → List ℕ → Result ℕ Fault
 form_of expected bytes = formed (chain (form_tests expected bytes)) (length_in bytes)
 
+-- a walk that a fault has stopped at a place
+abbrev pub broken : Fault → (place : ℕ) → Result ℕ Faulty
+broken fault place = Err (record { fault = fault; place = place })
+
 -- the walk goes on behind a record, or a fault stops it at the record's first byte
-abbrev pub stepped : Form → ℕ → Walk
-stepped (Fine long) place = Whole (place + long)
-stepped (Faulty fault) place = Broken fault place
+abbrev pub stepped : Result ℕ Fault → ℕ → Result ℕ Faulty
+stepped (Ok long) place = Ok (place + long)
+stepped (Err fault) place = broken fault place
 
 -- one record more, unless a fault has stopped the walk
-abbrev pub onward : (colour : Bool) → List ℕ → ℕ → Walk → Walk
-onward colour file k (Whole place) = stepped (form_of (expected_in colour k) (drop place file)) place
-onward colour file k (Broken fault place) = Broken fault place
+abbrev pub onward : (colour : Bool) → List ℕ → ℕ → Result ℕ Faulty → Result ℕ Faulty
+onward colour file k (Ok place) = stepped (form_of (expected_in colour k) (drop place file)) place
+onward colour file k (Err it) = Err it
 
 -- the walk over the records 0, .., n - 1 of a file, the first of which begins at a place:
 -- the place behind the last of them, or the first faulty one's fault and first byte
-unfoldable pub walk_of : (colour : Bool) → ℕ → List ℕ → ℕ → Walk
-walk_of colour n file start = fold n (onward colour file) (Whole start)
+unfoldable pub walk_of : (colour : Bool) → ℕ → List ℕ → ℕ → Result ℕ Faulty
+walk_of colour n file start = fold n (onward colour file) (Ok start)
 
 -- behind the last record, at this place, nothing is left (02, request 01)
 abbrev pub left_tests : List ℕ → ℕ → List (Test Refusal)
 left_tests file place = test (leb (length file) place) (surplus (length file)) ∷ []
 
 -- what a walk over a file comes to, as tests: a fault that has stopped it, or that nothing is left
-abbrev pub walk_tests : List ℕ → Walk → List (Test Refusal)
-walk_tests file (Whole place) = left_tests file place
-walk_tests file (Broken fault place) = test false (refusal_of fault place (length_from place file) (length file)) ∷ []
+abbrev pub walk_tests : List ℕ → Result ℕ Faulty → List (Test Refusal)
+walk_tests file (Ok place) = left_tests file place
+walk_tests file (Err it) = test false (refusal_of it.fault it.place (length_from it.place file) (length file)) ∷ []
 
 -- and what it sends back
-abbrev pub walk_said : List ℕ → Walk → Verdict Refusal
+abbrev pub walk_said : List ℕ → Result ℕ Faulty → Verdict Refusal
 walk_said file w = chain (walk_tests file w)

@@ -1,6 +1,6 @@
 -- The kinds of records that follow a head: by its mark a record says of which kind it is, and so how long (01, "Plane and record
 -- file"; 02, requests 01 and 05), and which record is expected where. Assumes nothing.
-use Rattle.std.specs.Prelude.{Bool, true, false, cond, not, List, [], ◌∷◌, ℕ, ◌+◌, ◌*◌, ◌/◌, ◌%◌, eqb}
+use Rattle.std.specs.Prelude.{Option, None, Some, Bool, true, false, cond, not, List, [], ◌∷◌, ℕ, ◌+◌, ◌*◌, ◌/◌, ◌%◌, eqb}
 use Rattle.record.specs.declared.Expected.{Expected}
 use Rattle.record.specs.declared.Kind.{Kind}
 
@@ -38,6 +38,11 @@ kind_in (k ∷ ks) mark = cond (eqb mark k.mark) (known k) (kind_in ks mark)
 
 unfoldable pub kind_of : ℕ → Known
 kind_of mark = kind_in kinds mark
+
+-- as the code has it
+abbrev pub known_by : Option Kind → Known
+known_by None = unknown
+known_by (Some k) = known k
 
 abbrev pub length_known : Known → ℕ
 length_known unknown = 0

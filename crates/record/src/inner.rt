@@ -6,11 +6,12 @@ ghost use Rattle.lists.specs.Parts.{over};
 ghost use Rattle.lists.specs.Tab.{tab};
 ghost use Rattle.refusal.specs.Number.{said};
 ghost use Rattle.record.specs.Faults.{form_of, walk_of, walk_said};
-ghost use Rattle.record.specs.Kinds.{length_of, in_fours, in_whole, in_chroma, kind_of, record_length, as_expected, expected_in};
+ghost use Rattle.record.specs.Kinds.{length_of, in_fours, in_whole, in_chroma, kind_of, known_by, record_length, as_expected, expected_in};
 ghost use Rattle.record.specs.Records.{front_with, record_with, record_of, record_whole, record_chroma, all_levels_in, qp_in, is_whole, whole_mode_in, mode_in, level_in, levels_in, cb_offset_in, cr_offset_in, chroma_mode_in, length_from, colour_at};
 
-use crate::{Expected, Form, Kind, Walk};
-use refusal::{Answer, Fault, Refusal};
+use crate::{Expected, Faulty, Kind};
+use refusal::{Fault, Refusal};
+use std::array;
 
 // A macroblock's record of 4x4 blocks: 4D 42; five bytes and the eight of the modes; the levels of sixteen blocks.
 const FOURS: Kind = Kind {
@@ -33,42 +34,52 @@ const CHROMA: Kind = Kind {
     levels: 128,
 };
 
-// ---- lengths
+impl Kind {
+    // The kind that has a mark, where one has it.
+    fn of_mark(mark: u16) -> Option<Kind>
+        ensures { known_by result ≡ kind_of mark }
+    {
+        [FOURS, WHOLE, CHROMA]
+            .iter()
+            .find(|kind| mark == kind.mark)
+            .copied()
+    }
 
-// Front, levels of two bytes each, sum.
-fn length_of(kind: Kind) -> usize
-    requires { length_of kind < 65536 }
-    ensures { result ≡ length_of kind }
-{
-    kind.front + 2 * kind.levels + 2
+    // How long a record is: front, levels of two bytes each, sum.
+    fn length(self) -> usize
+        requires { length_of self < 65536 }
+        ensures { result ≡ length_of self }
+    {
+        self.front + 2 * self.levels + 2
+    }
 }
+
+// ---- lengths
 
 // How long a macroblock's record of 4x4 blocks is.
 pub fn fours_length() -> usize
     ensures { result ≡ length_of in_fours }
 {
-    length_of(FOURS)
+    FOURS.length()
 }
 
 // How long a chroma record is.
 pub fn chroma_length() -> usize
     ensures { result ≡ length_of in_chroma }
 {
-    length_of(CHROMA)
+    CHROMA.length()
 }
 
 // ---- writing
 
 // What stands before the levels of a record of a kind, into its own bytes: mark, number, the byte next to it, and what this kind has besides.
+// The four go one way, from three callers to one store.
 fn write_front(kind: Kind, number: u16, next: u8, more: &[u8], front: &mut [u8])
     requires { (length front.old ≡ kind.front) × (5 + length more.now ≡ kind.front) }
     ensures { front.new ≡ front_with kind number (next ∷ more.now) }
 {
-    let mark = kind.mark;
-    front[0] = (mark / 256) as u8;
-    front[1] = (mark % 256) as u8;
-    front[2] = (number / 256) as u8;
-    front[3] = (number % 256) as u8;
+    front[..2].copy_from_slice(&kind.mark.to_be_bytes());
+    front[2..4].copy_from_slice(&number.to_be_bytes());
     front[4] = next;
     front[5..].copy_from_slice(more);
 }
@@ -100,12 +111,13 @@ fn record_over(
     ensures value { result ≡ length_of kind }
     ensures file_after { file.new ≡ over (record_with kind number (next ∷ more.now) levels.now) file.old }
 {
-    let long = length_of(kind);
+    let long = kind.length();
     write_record(kind, number, next, more, levels, &mut file[0..long]);
     long
 }
 
 // A macroblock's record of 4x4 blocks, likewise.
+#[tactic(auto, unfolding(crate::specs::Records::record_of))]
 pub fn write_fours(number: u16, qp: u8, modes: [u8; 16], levels: &[i32], file: &mut [u8]) -> usize
     requires in_fours_in_bounds { (length_of in_fours ≤ length file.old) × ((k : ℕ) → get_or modes k 0 < 16) }
     requires levels_len { (length levels.now ≡ in_fours.levels) × ((k : ℕ) → SFits w16 (get_or levels.now k (pos 0))) }
@@ -117,6 +129,7 @@ pub fn write_fours(number: u16, qp: u8, modes: [u8; 16], levels: &[i32], file: &
 }
 
 // A macroblock's record of 16x16, likewise.
+#[tactic(auto, unfolding(crate::specs::Records::record_whole))]
 pub fn write_whole(number: u16, qp: u8, mode: u8, levels: &[i32], file: &mut [u8]) -> usize
     requires in_whole_in_bounds { length_of in_whole ≤ length file.old }
     requires levels_len { (length levels.now ≡ in_whole.levels) × ((k : ℕ) → SFits w16 (get_or levels.now k (pos 0))) }
@@ -147,6 +160,9 @@ pub fn write_chroma(
 }
 
 // ---- reading
+
+// Each public name here but `all_zero` is a line over a byte's place or a kind, with a theorem in docs/STAMP.md; one function over the place or the kind
+// would leave to its callers what the names say.
 
 pub fn qp(part: &[u8]) -> u8
     requires { 4 < length part.now }
@@ -192,28 +208,17 @@ pub fn block_levels(part: &[u8], block: usize) -> [i32; 16]
     requires { (length part.now ≡ length_of in_fours) × (block < 16) }
     ensures { result ≡ levels_in block part.now }
 {
-    let mut levels = [0i32; 16];
-    for k in 0usize..16 {
-        levels[k] = level(part, block, k);
-    }
-    levels
+    array::from_fn(|k| level(part, block, k))
 }
 
-// Whether the sixteen levels of a block are all 0, by the sum of their bytes. On busy ground the low byte of the first level says at once that
-// they are not.
+// Whether the sixteen levels of a block are all 0, by their 32 bytes, which are compared at once where `all` would go byte by byte. On busy ground the
+// low byte of the first level says at once that they are not.
 pub fn all_zero(part: &[u8], block: usize) -> bool
     requires { (length part.now ≡ length_of in_fours) × (block < 16) }
     ensures { (result ≡ true) ↔ (levels_in block part.now ≡ tab 16 (λ k. pos 0)) }
 {
     let at = FOURS.front + 32 * block;
-    if part[at + 1] != 0 {
-        return false;
-    }
-    let mut sum: u16 = 0;
-    for k in 0usize..32 {
-        sum += part[at + k] as u16;
-    }
-    sum == 0
+    part[at + 1] == 0 && part[at..at + 32] == [0u8; 32]
 }
 
 // All levels of a record of a kind.
@@ -221,9 +226,8 @@ fn kind_levels(kind: Kind, part: &[u8], out: &mut [i32])
     requires { (length part.now ≡ length_of kind) × (length out.old ≡ kind.levels) }
     ensures { out.new ≡ all_levels_in kind part.now }
 {
-    let front = kind.front;
-    for i in 0usize..kind.levels {
-        out[i] = octets::inner::level_at(part, front, i);
+    for (i, level) in out.iter_mut().enumerate() {
+        *level = octets::inner::level_at(part, kind.front, i);
     }
 }
 
@@ -270,45 +274,28 @@ pub fn chroma_mode(part: &[u8]) -> u8
 // ---- faults
 
 // How long a record with a mark is, 0 where there is no such record.
+// A number and no `Option`, since `length_from` below answers it.
 fn record_length(mark: u16) -> usize
     ensures { result ≡ record_length mark }
 {
-    if mark == FOURS.mark {
-        return fours_length();
-    }
-    if mark == WHOLE.mark {
-        return length_of(WHOLE);
-    }
-    if mark == CHROMA.mark {
-        return chroma_length();
-    }
-    0
+    Kind::of_mark(mark).map_or(0, Kind::length)
 }
 
 // Whether a mark is as expected: a chroma record's where one is to stand, and elsewhere another kind's.
 fn is_expected(chroma: bool, mark: u16) -> bool
     ensures { result ≡ as_expected chroma (kind_of mark) }
 {
-    if mark == CHROMA.mark {
-        return chroma;
-    }
-    if record_length(mark) < 1 {
-        return false;
-    }
-    !chroma
+    Kind::of_mark(mark).is_some_and(|kind| (kind.mark == CHROMA.mark) == chroma)
 }
 
 // How many bytes are left from a place on.
 fn left(file: &[u8], place: usize) -> usize
     ensures { result ≡ length file.now - place }
 {
-    if file.len() < place {
-        return 0;
-    }
-    file.len() - place
+    file.len().saturating_sub(place)
 }
 
-// The length of the record that begins at a place, 0 where no record's mark stands there.
+// The length of the record that begins at a place, 0 where no record's mark stands there. A number and no `Option`, since callers add it to the place.
 pub fn length_from(file: &[u8], place: usize) -> usize
     ensures { result ≡ length_from place file.now }
 {
@@ -330,79 +317,64 @@ pub fn colour_from(file: &[u8], place: usize) -> bool
 }
 
 // The form of the record that begins at a place, where this one is expected.
-fn form(file: &[u8], place: usize, expected: Expected) -> Form
+fn form(file: &[u8], place: usize, expected: Expected) -> Result<usize, Fault>
     ensures { result ≡ form_of expected (drop place file.now) }
 {
     let rest = left(file, place);
     if rest < 2 {
-        return Form::Faulty(Fault::CutMark);
+        return Err(Fault::CutMark);
     }
     let mark = octets::inner::number_at(file, place);
     if !is_expected(expected.chroma, mark) {
-        return Form::Faulty(Fault::Mark);
+        return Err(Fault::Mark);
     }
     let long = record_length(mark);
     if rest < long {
-        return Form::Faulty(Fault::CutRest);
+        return Err(Fault::CutRest);
     }
-    if (octets::inner::number_at(file, place + 2) as usize) != expected.number {
-        return Form::Faulty(Fault::Number);
+    if usize::from(octets::inner::number_at(file, place + 2)) != expected.number {
+        return Err(Fault::Number);
     }
     if !octets::inner::sum_holds(&file[place..place + long]) {
-        return Form::Faulty(Fault::Sum);
+        return Err(Fault::Sum);
     }
-    Form::Fine(long)
+    Ok(long)
 }
 
 // What is expected as record k of a mono or of a colour file.
+#[tactic(auto, unfolding(crate::specs::Kinds::expected_in))]
 fn expected_in(colour: bool, k: usize) -> Expected
     ensures { result ≡ expected_in colour k }
 {
-    if colour {
-        Expected {
-            chroma: k % 2 == 1,
-            number: k / 2,
-        }
-    } else {
-        Expected {
-            chroma: false,
-            number: k,
-        }
+    Expected {
+        chroma: colour && k % 2 == 1,
+        number: if colour { k / 2 } else { k },
     }
 }
 
 // The walk over the records 0, 1, .. of a file from a place on.
-fn walk(file: &[u8], start: usize, count: usize, colour: bool) -> Walk
+fn walk(file: &[u8], start: usize, count: usize, colour: bool) -> Result<usize, Faulty>
     ensures { result ≡ walk_of colour count file.now start }
 {
     let mut place = start;
     for k in 0usize..count {
-        match form(file, place, expected_in(colour, k)) {
-            Form::Faulty(fault) => {
-                return Walk::Broken(fault, place);
-            }
-            Form::Fine(long) => {
-                place = place + long;
-            }
-        }
+        let tested = form(file, place, expected_in(colour, k));
+        let long = tested.map_err(|fault| Faulty { fault, place })?;
+        place += long;
     }
-    Walk::Whole(place)
+    Ok(place)
 }
 
 // What the form of a file's records sends back: the first fault, or that bytes are left behind the last record.
-pub fn walked(file: &[u8], start: usize, count: usize, colour: bool) -> Answer
+pub fn walked(file: &[u8], start: usize, count: usize, colour: bool) -> Result<(), Refusal>
     ensures { said result ≡ walk_said file.now (walk_of colour count file.now start) }
 {
-    match walk(file, start, count, colour) {
-        Walk::Broken(fault, place) => {
-            let long = length_from(file, place);
-            Answer::Refused(refusal::inner::of_fault(fault, place, long, file.len()))
-        }
-        Walk::Whole(end) => {
-            if end < file.len() {
-                return Answer::Refused(Refusal::Form(file.len()));
-            }
-            Answer::Done
-        }
+    let end = walk(file, start, count, colour).map_err(|Faulty { fault, place }| {
+        let long = length_from(file, place);
+        refusal::inner::of_fault(fault, place, long, file.len())
+    })?;
+    if end < file.len() {
+        return Err(Refusal::Form(file.len()));
     }
+    Ok(())
 }

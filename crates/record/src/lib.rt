@@ -15,22 +15,16 @@ pub struct Kind {
 }
 
 // What is expected where a record begins: whether a chroma record, and which number.
+// Flags and numbers, as `expected_in` and the walk over it have them: an enum would be turned into them at each test.
 #[derive(Clone, Copy)]
 pub struct Expected {
     pub chroma: bool,
     pub number: usize,
 }
 
-// The answer to the test of one record's form: its length where it is fine.
+// The first faulty record of a walk: its fault and its first byte's place.
 #[derive(Clone, Copy)]
-pub enum Form {
-    Fine(usize),
-    Faulty(Fault),
-}
-
-// The end of a walk over records: the place behind the last, or the first faulty one's fault and its first byte's place.
-#[derive(Clone, Copy)]
-pub enum Walk {
-    Whole(usize),
-    Broken(Fault, usize),
+pub struct Faulty {
+    pub fault: Fault,
+    pub place: usize,
 }

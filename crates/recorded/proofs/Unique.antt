@@ -1,8 +1,7 @@
 -- The contracts of `recorded` determine what its functions answer. Assumes nothing.
-use mathlib.Core.Path.{◌≡◌, refl, sym, ◌∙◌}
-use mathlib.Core.Bool.{Bool, true, false}
+use mathlib.Core.Path.{refl, sym, ◌∙◌}
 use Rattle.unique.specs.Unique.{Unique}
-use Rattle.recorded.specs.Numbers.{Tells}
+use Rattle.std.specs.Bool.{one_answer}
 use Rattle.recorded.proofs.inner.two_bytes.Kinds as two_bytes
 use Rattle.recorded.proofs.inner.two_bytes.Reads as two_bytes_reads
 use Rattle.recorded.proofs.inner.four_bytes.Kinds as four_bytes
@@ -15,13 +14,6 @@ use Rattle.recorded.proofs.inner.list_of.Kinds as list_of
 use Rattle.recorded.proofs.inner.list_of.Reads as list_of_reads
 use Rattle.recorded.proofs.inner.same_list.Kinds as same_list
 use Rattle.recorded.proofs.inner.same_list.Reads as same_list_reads
-
--- two answers that are true exactly if the same holds
-tells_same : {P : Type 0} (x y : Bool) → Tells x P → Tells y P → x ≡ y
-tells_same true true p q = refl
-tells_same false false p q = refl
-tells_same true false p q = sym (q.1 (p.0 refl))
-tells_same false true p q = p.1 (q.0 refl)
 
 pub two_bytes_unique : Unique 1 two_bytes.ps two_bytes.r two_bytes_reads.Learnt (Unit {0}) (λ κs e. tt)
 two_bytes_unique κs a x y e f p q = (p.0 ∙ sym q.0, refl)
@@ -39,4 +31,4 @@ pub list_of_unique : Unique 1 list_of.ps list_of.r list_of_reads.Learnt (Unit {0
 list_of_unique κs a x y e f p q = (p ∙ sym q, refl)
 
 pub same_list_unique : Unique 0 same_list.ps same_list.r same_list_reads.Learnt (Unit {0}) (λ κs e. tt)
-same_list_unique κs a x y e f p q = (tells_same x y p q, refl)
+same_list_unique κs a x y e f p q = (one_answer x y p q, refl)

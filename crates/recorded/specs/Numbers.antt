@@ -1,6 +1,6 @@
 -- "Numbers are low byte first, negative ones in two's complement" (tests/README.md), each from a place of a recorded request on.
 -- Assumes nothing.
-use Rattle.std.specs.Prelude.{◌≡◌, Bool, true, List, ℕ, ◌+◌, ◌*◌, ℤ, get_or}
+use Rattle.std.specs.Prelude.{List, ℕ, ◌+◌, ◌*◌, ℤ, get_or}
 use Rattle.std.specs.Int.{w32}
 use Rattle.std.proofs.Common.{to_z}
 use Rattle.lists.specs.Tab.{tab}
@@ -22,7 +22,3 @@ of_signed place bytes = to_z w32 (of_four place bytes)
 -- a list of n such numbers
 abbrev pub of_list : (n : ℕ) → List ℕ → List ℤ
 of_list n bytes = tab n (λ k. of_signed (4 * k) bytes)
-
--- an answer that is true exactly if something holds
-abbrev pub Tells : Bool → Type 0 → Type 0
-Tells answer P = (answer ≡ true → P) × (P → answer ≡ true)

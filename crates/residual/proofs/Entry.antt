@@ -1,12 +1,12 @@
 -- What the tests come to, one law for each verdict.
 --     wide_each, wide_none                                the first wide number and a bound
---     lent_short, lent_no_room, lent_rest, lent_fine      LENGTH and QUANTIZER
+--     lent_short, lent_rest, lent_fine      LENGTH and QUANTIZER
 --     accepted_passed, accepted_number, accepted_refused  what every caller learns from a function that tests for it
 --     Accepted, accepted_legal                            and from `accepted`
---     residuals_refused, residuals_outside, residuals_fine     RESIDUAL, behind them
+--     residuals_outside, residuals_fine     RESIDUAL, behind them
 --     AcceptedResiduals, residuals_legal                  what a caller learns from `residuals_accepted`
 --     range_far, range_fine, range_each                   RANGE
---     levels_few, levels_refused, levels_wide, levels_fine     LEVEL, behind them
+--     levels_wide, levels_fine     LEVEL, behind them
 --     AcceptedLevels, levels_legal                        what a caller learns from `levels_accepted`
 -- Assumes nothing.
 use mathlib.Core.Path.{◌≡◌, refl, sym, ap, ◌∙◌}
@@ -16,22 +16,22 @@ use native.Mathlib.Omega.{arith}
 use borrow.Author.Tests.{eq-eqb, ne_eqb, eqb-true}
 use lib.IntN.{ℤ, pos, negsuc}
 use lib.ListN.{length}
-use Rattle.lists.specs.Chain.{Test, scan_test, chain, pass, stop}
-use Rattle.lists.proofs.Chain.{chain_exactly_if, chain_refused, scan_none, scan_found, holds_new}
+use Rattle.lists.specs.Chain.{Test, chain, pass, stop}
+use Rattle.lists.proofs.Chain.{chain_exactly_if, scan_none, scan_found, holds_new}
 use Rattle.whole.specs.Bounds.{Each}
 use Rattle.whole.specs.Range.{first_outside}
 use Rattle.whole.proofs.Range.{at_end, none_each, each_none}
 use Rattle.refusal.specs.declared.Refusal.{Refusal}
 use Rattle.refusal.specs.declared.Refusal.TheVariants as refusal
 use Rattle.refusal.proofs.Same.{says_same}
-use Rattle.quantizer.specs.Range.{highest, number_tests, said_built, qp_of}
-use Rattle.quantizer.specs.declared.Built.{Built}
-use Rattle.quantizer.specs.declared.Built.TheVariants.{Legal, Refused}
+use Rattle.quantizer.specs.Range.{highest, number_tests, qp_of}
 use Rattle.quantizer.specs.declared.Quantizer.{Quantizer}
 use Rattle.quantizer.proofs.Range.{number_legal, legal}
 use Rattle.residual.specs.Entry.{lent_tests, Accepts, residual_tests, range_test, level_tests, first_wide}
 use Rattle.residual.specs.Order.{in_zigzag}
 use Rattle.residual.proofs.Order.{length_zigzag, zigzag_each}
+use Rattle.std.specs.Prelude.{Err, Ok, Result}
+use Rattle.refusal.specs.Number.{said}
 
 -- a list whose first wide number is its end has sixteen-bit numbers only
 pub wide_each : (l : List ℤ) → length l ≤ first_wide l → Each 32768 l
@@ -43,24 +43,21 @@ wide_none l h = each_none (negsuc 32767) (pos 32767) l 32767 tt tt h
 
 -- ---- what every caller learns from a function that tests for it
 
-module _ (tests : List (Test Refusal)) (qp : ℕ) {b : Built} (p : Accepts tests qp b) where
-  pub accepted_passed : {q : Quantizer} → b ≡ Legal q → chain tests ≡ pass
-  accepted_passed e = sym (says_same p.says) ∙ ap said_built e
+module _ (tests : List (Test Refusal)) (qp : ℕ) {b : Result Quantizer Refusal} (p : Accepts tests qp b) where
+  pub accepted_passed : {q : Quantizer} → b ≡ Ok q → chain tests ≡ pass
+  accepted_passed e = sym (says_same p.says) ∙ ap said e
 
-  pub accepted_number : {q : Quantizer} → b ≡ Legal q → q.qp ≡ qp
+  pub accepted_number : {q : Quantizer} → b ≡ Ok q → q.qp ≡ qp
   accepted_number e = sym (ap qp_of e) ∙ holds_new 0 (accepted_passed e) p.value
 
-  pub accepted_refused : {r : Refusal} → b ≡ Refused r → chain tests ≡ stop r
-  accepted_refused e = sym (says_same p.says) ∙ ap said_built e
+  pub accepted_refused : {r : Refusal} → b ≡ Err r → chain tests ≡ stop r
+  accepted_refused e = sym (says_same p.says) ∙ ap said e
 
 -- ---- LENGTH and QUANTIZER
 
 module _ (n qp given room : ℕ) where
   pub lent_short : (given ≡ n → ⊥) → chain (lent_tests n qp given room) ≡ stop refusal.Length
   lent_short h = simp (ne_eqb given n h)
-
-  pub lent_no_room : given ≡ n → (room ≡ n → ⊥) → chain (lent_tests n qp given room) ≡ stop refusal.Length
-  lent_no_room h k = simp (eq-eqb given n h, ne_eqb room n k)
 
   -- where both lengths are right the quantizer's own test decides
   pub lent_rest : given ≡ n → room ≡ n → chain (lent_tests n qp given room) ≡ chain (number_tests qp)
@@ -77,7 +74,7 @@ module _ (n qp given room : ℕ) where
     pub legal : qp ≤ highest
     pub number : q.qp ≡ qp
 
-  pub accepted_legal : {b : Built} {q : Quantizer} → Accepts (lent_tests n qp given room) qp b → b ≡ Legal q → Accepted q
+  pub accepted_legal : {b : Result Quantizer Refusal} {q : Quantizer} → Accepts (lent_tests n qp given room) qp b → b ≡ Ok q → Accepted q
   accepted_legal {b} {q} p e =
       let v = accepted_passed (lent_tests n qp given room) qp p e in
       let a = (chain_exactly_if (lent_tests n qp given room)).passes.0 v in
@@ -92,9 +89,6 @@ module _ (n qp given room : ℕ) where
 -- ---- RESIDUAL
 
 module _ (n : ℕ) (low high : ℤ) (qp : ℕ) (numbers : List ℤ) (room : ℕ) where
-  pub residuals_refused : {r : Refusal} → chain (lent_tests n qp (length numbers) room) ≡ stop r → chain (residual_tests n low high qp numbers room) ≡ stop r
-  residuals_refused {r} e = chain_refused (lent_tests n qp (length numbers) room) (scan_test n (first_outside low high numbers) refusal.Residual ∷ []) r e
-
   module _ (passed : chain (lent_tests n qp (length numbers) room) ≡ pass) where
     pub residuals_outside : first_outside low high numbers < n → chain (residual_tests n low high qp numbers room) ≡ stop (refusal.Residual (first_outside low high numbers))
     residuals_outside l = scan_found (lent_tests n qp (length numbers) room) passed n (first_outside low high numbers) refusal.Residual [] l
@@ -111,7 +105,7 @@ module _ (n : ℕ) (low high : ℤ) (qp : ℕ) (numbers : List ℤ) (room : ℕ)
     pub number : q.qp ≡ qp
     pub none : length numbers ≤ first_outside low high numbers
 
-  pub residuals_legal : {b : Built} {q : Quantizer} → Accepts (residual_tests n low high qp numbers room) qp b → b ≡ Legal q → AcceptedResiduals q
+  pub residuals_legal : {b : Result Quantizer Refusal} {q : Quantizer} → Accepts (residual_tests n low high qp numbers room) qp b → b ≡ Ok q → AcceptedResiduals q
   residuals_legal {b} {q} p e =
       let v = accepted_passed (residual_tests n low high qp numbers room) qp p e in
       let a = (chain_exactly_if (residual_tests n low high qp numbers room)).passes.0 v in
@@ -141,15 +135,7 @@ module _ (d : List ℤ) where
 -- ---- LENGTH, QUANTIZER, LEVEL
 
 module _ (n from qp predicted : ℕ) (l : List ℤ) (room : ℕ) where
-  pub levels_few : (length l ≡ n → ⊥) → chain (level_tests n from qp predicted l room) ≡ stop refusal.Length
-  levels_few k = rw (ne_eqb (length l) n k)
-
   module _ (k : length l ≡ n) where
-    pub levels_refused : {r : Refusal} → chain (lent_tests 16 qp predicted room) ≡ stop r → chain (level_tests n from qp predicted l room) ≡ stop r
-    levels_refused {r} e =
-        rw (eq-eqb (length l) n k)
-        (chain_refused (lent_tests 16 qp predicted room) (scan_test n (first_wide l) (λ k. refusal.Level (from + k)) ∷ []) r e)
-
     module _ (passed : chain (lent_tests 16 qp predicted room) ≡ pass) where
       pub levels_wide : first_wide l < n → chain (level_tests n from qp predicted l room) ≡ stop (refusal.Level (from + first_wide l))
       levels_wide w = rw (eq-eqb (length l) n k) (scan_found (lent_tests 16 qp predicted room) passed n (first_wide l) (λ k. refusal.Level (from + k)) [] w)
@@ -169,7 +155,7 @@ module _ (n from qp predicted : ℕ) (l : List ℤ) (room : ℕ) where
     pub number : q.qp ≡ qp
     pub small : Each 32768 l
 
-  pub levels_legal : {b : Built} {q : Quantizer} → Accepts (level_tests n from qp predicted l room) qp b → b ≡ Legal q → AcceptedLevels q
+  pub levels_legal : {b : Result Quantizer Refusal} {q : Quantizer} → Accepts (level_tests n from qp predicted l room) qp b → b ≡ Ok q → AcceptedLevels q
   levels_legal {b} {q} p e =
       let v = accepted_passed (level_tests n from qp predicted l room) qp p e in
       let a = (chain_exactly_if (level_tests n from qp predicted l room)).passes.0 v in

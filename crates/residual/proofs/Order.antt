@@ -27,12 +27,6 @@ module _ (l : List ℤ) where
       let p = zigzag_permutes place h in
       get_d_tab 16 (λ step. get_or l (zigzag_of step) (pos 0)) (step_of place) (pos 0) p.step ∙ ap (λ (i : ℕ). get_or l i (pos 0)) p.place_of_step
 
-  place_at : (step : ℕ) → step < 16 → get_or (in_places l) (zigzag_of step) (pos 0) ≡ get_or l step (pos 0)
-  unfolding in_places
-  place_at step h =
-      let p = zigzag_permutes step h in
-      get_d_tab 16 (λ place. get_or l (step_of place) (pos 0)) (zigzag_of step) (pos 0) p.place ∙ ap (λ (i : ℕ). get_or l i (pos 0)) p.step_of_place
-
   module _ (long : length l ≡ 16) where
     pub places_again : in_places (in_zigzag l) ≡ l
     unfolding in_places

@@ -10,6 +10,7 @@ use mathlib.Core.List.{List}
 use Prim.Native.Nat.{ℕ, ◌+◌, ◌*◌, ◌/◌, ◌^◌, ◌<◌, ◌≤◌}
 use native.Mathlib.Nat.{mul-le-mul, mul-le-mul_left, mul_comm, div-le_self, div-lt_iff_lt-mul}
 use native.Mathlib.Omega.{arith}
+use borrow.Author.Differences.{ints}
 use lib.Dec.{T, ltb, ltb→lt}
 use lib.IntN.{ℤ, pos, negsuc, neg_ℤ, nat_abs, ◌-ℤ◌, +ℤ_idl}
 use lib.ListN.{get_or}
@@ -19,7 +20,6 @@ use Rattle.lists.specs.Tab.{tab}
 use Rattle.lists.proofs.Tab.{tab_same, get_d_tab}
 use Rattle.whole.specs.Bounds.{Within}
 use Rattle.whole.proofs.Bound.{abs_neg}
-use Rattle.whole.proofs.Order.{tests}
 use Rattle.transform.specs.Forward.{forward}
 use Rattle.quantizer.specs.Range.{period_of, remainder_of}
 use Rattle.quantizer.specs.Tables.{class_at_place}
@@ -29,12 +29,12 @@ use Rattle.residual.specs.Quantize.{signed, level_by, level_of, f_of, q_of}
 use Rattle.residual.specs.Rescale.{mf_at}
 
 pub signed_low : (y : ℤ) (size : ℕ) → lt_z y (pos 0) ≡ true → pos 0 -ℤ pos size ≡ signed y size
-signed_low (pos n) size e = absurd (omega tests)
+signed_low (pos n) size e = absurd (omega (arith, ints))
 signed_low (negsuc n) size e = +ℤ_idl (neg_ℤ (pos size))
 
 pub signed_high : (y : ℤ) (size : ℕ) → lt_z y (pos 0) ≡ false → pos size ≡ signed y size
 signed_high (pos n) size e = refl
-signed_high (negsuc n) size e = absurd (omega tests)
+signed_high (negsuc n) size e = absurd (omega (arith, ints))
 
 pub third_small : (p : ℕ) → p ≤ 8 → f_of p ≤ 2796202
 third_small p h = omega (arith, pow_mono {i = q_of p} {j = 23} (omega arith))

@@ -1,5 +1,6 @@
 -- Numbers that are all 0: levels of nothing, and what is rebuilt of them.
 --     zeros, all_zero_is                       sixteen of them; what the scan for another number finds none in
+--     all_zero_decides                         the scan finds none exactly in them
 --     quantized_zeros                          a residual of nothing has levels 0
 --     zigzag_zeros, places_zeros               either order leaves them so
 --     rescaled_zeros, zeros_fit, samples_zeros such levels rescale to 0, which is in range, and leave a prediction of bytes as it is
@@ -10,11 +11,13 @@ use mathlib.Core.List.{List}
 use Prim.Native.Nat.{ℕ, ◌+◌, ◌*◌, ◌/◌, ◌^◌, ◌<◌}
 use native.Mathlib.Nat.{div-lt_iff_lt-mul}
 use native.Mathlib.Omega.{arith}
+use borrow.Author.Differences.{false_is_lt}
 use borrow.Author.Tests.{eqb-true}
 use lib.Dec.{eqb}
 use lib.IntN.{ℤ, pos, negsuc, ◌+ℤ◌, ◌*ℤ◌}
-use lib.ListN.{length, get_or}
+use lib.ListN.{length, get_or, replicate}
 use lib.Pow.{pow_pos}
+use Rattle.std.specs.Prelude.{Decides}
 use Rattle.lists.specs.Tab.{tab, grid}
 use Rattle.lists.specs.Bytes.{Bytes}
 use Rattle.lists.specs.First.{first}
@@ -22,7 +25,7 @@ use Rattle.lists.proofs.Tab.{get_d_tab, tab_same, tab_of}
 use Rattle.whole.specs.Bounds.{Within}
 use Rattle.whole.specs.Clip.{clip}
 use Rattle.whole.specs.Range.{first_outside, inside}
-use Rattle.whole.proofs.Order.{clip_same, le_lt_z}
+use Rattle.whole.proofs.Order.{clip_same}
 use Rattle.whole.proofs.Range.{inside_within, none_outside}
 use Rattle.transform.specs.Forward.{forward}
 use Rattle.transform.specs.Inverse.{inverse}
@@ -54,6 +57,14 @@ all_zero_is l long e =
     let end = eqb-true (first_outside (pos 0) (pos 0) l) 16 e in
     sym (tab_of 16 (λ k. pos 0) l (pos 0) long
     (λ k h. sym (within_nothing (get_or l k (pos 0)) (inside_within (pos 0) (pos 0) 0 tt tt (get_or l k (pos 0)) (none_outside (pos 0) (pos 0) l (omega arith) k (omega arith))))))
+
+zeros_none : eqb (first_outside (pos 0) (pos 0) zeros) 16 ≡ true
+unfolding tab first_outside first inside
+zeros_none = refl
+
+pub all_zero_decides : (l : List ℤ) → length l ≡ 16 → Decides (eqb (first_outside (pos 0) (pos 0) l) 16) (l ≡ replicate 16 (pos 0))
+unfolding tab
+all_zero_decides l long = (all_zero_is l long, λ same. ap (λ (x : List ℤ). eqb (first_outside (pos 0) (pos 0) x) 16) same ∙ zeros_none)
 
 -- ---- levels of nothing
 
@@ -108,7 +119,7 @@ unfolding inverse tab grid
 inverse_zeros = refl
 
 clip_byte : (b : ℕ) → b < 256 → clip 255 (pos b +ℤ pos 0) ≡ b
-clip_byte b h = clip_same 255 (pos b +ℤ pos 0) (le_lt_z (pos b +ℤ pos 0) (pos 0) (omega arith)) (le_lt_z (pos 255) (pos b +ℤ pos 0) (omega arith)) ∙ omega arith
+clip_byte b h = clip_same 255 (pos b +ℤ pos 0) (sym (false_is_lt (pos b +ℤ pos 0) (pos 0) (omega arith))) (sym (false_is_lt (pos 255) (pos b +ℤ pos 0) (omega arith))) ∙ omega arith
 
 pub samples_zeros : (prediction : List ℕ) → length prediction ≡ 16 → Bytes prediction → rebuilt_samples prediction zeros ≡ prediction
 unfolding rebuilt_samples added

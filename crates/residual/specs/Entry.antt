@@ -4,16 +4,16 @@ use Rattle.std.specs.Prelude.{◌≡◌, List, [], ◌∷◌, ◌++◌, ℕ, ◌
 use Rattle.lists.specs.Chain.{Test, scan_test, chain, written}
 use Rattle.refusal.specs.Number.{said, Says}
 use Rattle.refusal.specs.Tests.{length_test}
-use Rattle.refusal.specs.declared.Answer.{Answer}
 use Rattle.refusal.specs.declared.Refusal.{Refusal}
 use Rattle.refusal.specs.declared.Refusal.TheVariants as refusal
 use Rattle.whole.specs.Notation.{minus}
 use Rattle.whole.specs.Range.{first_outside}
-use Rattle.quantizer.specs.Range.{quantizer_test, said_built, qp_of}
-use Rattle.quantizer.specs.declared.Built.{Built}
+use Rattle.quantizer.specs.Range.{quantizer_test, qp_of}
 use Rattle.residual.specs.Levels.{levels_of}
 use Rattle.residual.specs.Order.{in_zigzag}
 use Rattle.residual.specs.Rebuild.{rebuilt_samples, rescaled_of, rescaled_with_dc}
+use Rattle.std.specs.Prelude.{Result}
+use Rattle.quantizer.specs.declared.Quantizer.{Quantizer}
 
 -- "outside -32768..32767": the first index
 abbrev pub first_wide : List ℤ → ℕ
@@ -24,8 +24,8 @@ abbrev pub range_test : List ℤ → Test Refusal
 range_test d = scan_test 16 (first_wide (in_zigzag d)) refusal.Range
 
 -- the answer of a function that tests for its callers: the quantizer, or the refusal
-pub record Accepts (tests : List (Test Refusal)) (qp : ℕ) (b : Built) : Type 0 where
-  pub says : Says (said_built b) (chain tests)
+pub record Accepts (tests : List (Test Refusal)) (qp : ℕ) (b : Result Quantizer Refusal) : Type 0 where
+  pub says : Says (said b) (chain tests)
   pub value : qp_of b ≡ written (chain tests) qp 0
 
 -- ---- LENGTH of what is lent and of the room for what is written, n of each, then QUANTIZER
@@ -43,13 +43,13 @@ residual_tests n low high qp numbers room = lent_tests n qp (length numbers) roo
 abbrev pub levels_tests : ℕ → List ℤ → List ℤ → List (Test Refusal)
 levels_tests qp residual out = residual_tests 16 (minus 255) (pos 255) qp residual (length out)
 
-pub record Levels (qp : ℕ) (residual out : List ℤ) (r : Answer) (after : List ℤ) : Type 0 where
+pub record Levels (qp : ℕ) (residual out : List ℤ) (r : Result (Unit {0}) Refusal) (after : List ℤ) : Type 0 where
   pub says : Says (said r) (chain (levels_tests qp residual out))
   pub wrote : after ≡ written (chain (levels_tests qp residual out)) (levels_of qp residual) out
 
 -- ---- the end of rebuilding: RANGE
 
-pub record Finishes (prediction : List ℕ) (d : List ℤ) (out : List ℕ) (r : Answer) (after : List ℕ) : Type 0 where
+pub record Finishes (prediction : List ℕ) (d : List ℤ) (out : List ℕ) (r : Result (Unit {0}) Refusal) (after : List ℕ) : Type 0 where
   pub says : Says (said r) (chain (range_test d ∷ []))
   pub wrote : after ≡ written (chain (range_test d ∷ [])) (rebuilt_samples prediction d) out
 
@@ -65,7 +65,7 @@ level_tests n from qp predicted levels room =
 abbrev pub rebuild_tests : ℕ → List ℕ → List ℤ → List ℕ → List (Test Refusal)
 rebuild_tests qp prediction levels out = level_tests 16 0 qp (length prediction) levels (length out) ++ (range_test (rescaled_of qp levels) ∷ [])
 
-pub record Rebuilds (qp : ℕ) (prediction : List ℕ) (levels : List ℤ) (out : List ℕ) (r : Answer) (after : List ℕ) : Type 0 where
+pub record Rebuilds (qp : ℕ) (prediction : List ℕ) (levels : List ℤ) (out : List ℕ) (r : Result (Unit {0}) Refusal) (after : List ℕ) : Type 0 where
   pub says : Says (said r) (chain (rebuild_tests qp prediction levels out))
   pub wrote : after ≡ written (chain (rebuild_tests qp prediction levels out)) (rebuilt_samples prediction (rescaled_of qp levels)) out
 
@@ -74,6 +74,6 @@ pub record Rebuilds (qp : ℕ) (prediction : List ℕ) (levels : List ℤ) (out 
 abbrev pub with_dc_tests : ℕ → List ℕ → ℤ → List ℤ → List ℕ → List (Test Refusal)
 with_dc_tests qp prediction dc ac out = level_tests 15 1 qp (length prediction) ac (length out) ++ (range_test (rescaled_with_dc qp dc ac) ∷ [])
 
-pub record RebuildsWithDc (qp : ℕ) (prediction : List ℕ) (dc : ℤ) (ac : List ℤ) (out : List ℕ) (r : Answer) (after : List ℕ) : Type 0 where
+pub record RebuildsWithDc (qp : ℕ) (prediction : List ℕ) (dc : ℤ) (ac : List ℤ) (out : List ℕ) (r : Result (Unit {0}) Refusal) (after : List ℕ) : Type 0 where
   pub says : Says (said r) (chain (with_dc_tests qp prediction dc ac out))
   pub wrote : after ≡ written (chain (with_dc_tests qp prediction dc ac out)) (rebuilt_samples prediction (rescaled_with_dc qp dc ac)) out

@@ -15,18 +15,17 @@ ghost use Rattle.residual.specs.Rescale.{mf_at, v_at, Scalable, rescaled};
 ghost use Rattle.residual.specs.Rebuild.{added, rebuilt_samples};
 ghost use Rattle.residual.specs.Order.{ordered, in_zigzag, in_places};
 
-use quantizer::{Built, Class, Quantizer};
+use quantizer::{Class, Quantizer};
 use refusal::Refusal;
+use std::array;
 
 // LENGTH of what is lent and of the room for what is written, then QUANTIZER.
-pub fn accepted(n: usize, qp: u8, given: usize, room: usize) -> Built
+// Lengths and no slices: what is written is lent to the caller alone (docs/DECISIONS.md, 95).
+pub fn accepted(n: usize, qp: u8, given: usize, room: usize) -> Result<Quantizer, Refusal>
     ensures { Accepts (lent_tests n qp given room) qp result }
 {
-    if given != n {
-        return Built::Refused(Refusal::Length);
-    }
-    if room != n {
-        return Built::Refused(Refusal::Length);
+    if given != n || room != n {
+        return Err(Refusal::Length);
     }
     Quantizer::new(qp)
 }
@@ -39,28 +38,23 @@ pub fn residuals_accepted(
     qp: u8,
     numbers: &[i32],
     room: usize,
-) -> Built
+) -> Result<Quantizer, Refusal>
     ensures { Accepts (residual_tests n low high qp numbers.now room) qp result }
 {
-    match accepted(n, qp, numbers.len(), room) {
-        Built::Refused(refusal) => Built::Refused(refusal),
-        Built::Legal(quantizer) => {
-            let place = whole::inner::first_outside(numbers, low, high);
-            if place < n {
-                return Built::Refused(Refusal::Residual(place));
-            }
-            Built::Legal(quantizer)
-        }
+    let quantizer = accepted(n, qp, numbers.len(), room)?;
+    if let Some(place) = whole::inner::first_outside(numbers, low, high) {
+        return Err(Refusal::Residual(place));
     }
+    Ok(quantizer)
 }
 
 // The multipliers of the sixteen places.
 pub(crate) fn multipliers(quantizer: Quantizer) -> [u32; 16]
     ensures { result ≡ tab 16 (mf_at quantizer.qp) }
 {
-    let a = quantizer.mf(Class::A) as u32;
-    let b = quantizer.mf(Class::B) as u32;
-    let c = quantizer.mf(Class::C) as u32;
+    let a = u32::from(quantizer.mf(Class::A));
+    let b = u32::from(quantizer.mf(Class::B));
+    let c = u32::from(quantizer.mf(Class::C));
     quantizer::inner::by_class(a, b, c)
 }
 
@@ -69,8 +63,7 @@ pub fn scale(quantizer: Quantizer, class: Class, power: u8) -> u32
     requires { power ≤ 8 }
     ensures { result ≡ v_of (remainder_of quantizer.qp) class * 2 ^ power }
 {
-    let v = quantizer.v(class) as u32;
-    v << power
+    u32::from(quantizer.v(class)) << power
 }
 
 // The scales of the sixteen places.
@@ -96,14 +89,14 @@ fn level(y: i32, mf: u32, f: u32, q: u32) -> i32
 }
 
 // Each number of a slice made its level, by the multiplier of its place.
+// `enumerate` and no `zip(mf)`, so too in `scale_all` and in `add`: behind a `zip` of `iter_mut` a proof is told nothing of what was written
+// (tried here: `returns` stayed open).
 pub fn level_all(numbers: &mut [i32], mf: &[u32], f: u32, q: u32)
     requires { (Each 65280 numbers.old) × (length numbers.old ≤ length mf.now) × ((k : ℕ) → k < length numbers.old → get_or mf.now k 0 ≤ 13107) × (f ≤ 11184810) × (q ≤ 25) }
     ensures { numbers.new ≡ tab (length numbers.old) (λ k. level_by (get_or mf.now k 0) f (2 ^ q) (get_or numbers.old k (pos 0))) }
 {
-    let mut k = 0;
-    while k < numbers.len() {
-        numbers[k] = level(numbers[k], mf[k], f, q);
-        k += 1;
+    for (k, number) in numbers.iter_mut().enumerate() {
+        *number = level(*number, mf[k], f, q);
     }
 }
 
@@ -117,6 +110,7 @@ pub fn third(period: u8) -> u32
 }
 
 // What is added before a rescaled number is shifted down: half of the divisor.
+// Beside `third`: each is a power of two and a division, with bounds of its own.
 pub fn half(shift: u32) -> u32
     requires { shift ≤ 4 }
     ensures { (result ≡ 2 ^ shift / 2) × (result ≤ 8) }
@@ -126,10 +120,11 @@ pub fn half(shift: u32) -> u32
 }
 
 // How far a is beyond b: of a period, the power of two that is left for its scale, and to a period, the shift that is left.
+// A name for the library's method, which stays for `beyond_unique`.
 pub fn beyond(a: u8, b: u8) -> u8
     ensures { result ≡ a - b }
 {
-    if a < b { 0 } else { a - b }
+    a.saturating_sub(b)
 }
 
 // The levels of sixteen residuals, in raster order.
@@ -140,7 +135,7 @@ pub fn quantized(quantizer: Quantizer, residual: [i32; 16]) -> [i32; 16]
     let mut levels = transform::inner::forward_block(residual);
     let mf = multipliers(quantizer);
     let period = quantizer.period();
-    level_all(&mut levels, &mf, third(period), 15 + (period as u32));
+    level_all(&mut levels, &mf, third(period), 15 + u32::from(period));
     levels
 }
 
@@ -149,11 +144,7 @@ fn in_order(l: &[i32], table: [usize; 16]) -> [i32; 16]
     requires { (length l.now ≡ 16) × ((k : ℕ) → k < 16 → get_or table k 0 < 16) }
     ensures { result ≡ ordered 16 (λ k. get_or table k 0) l.now }
 {
-    let mut out = [0i32; 16];
-    for k in 0usize..16 {
-        out[k] = l[table[k]];
-    }
-    out
+    array::from_fn(|k| l[table[k]])
 }
 
 // Sixteen numbers from raster order into zigzag order.
@@ -171,7 +162,7 @@ pub(crate) fn placed(l: &[i32]) -> [i32; 16]
     in_order(l, quantizer::inner::steps())
 }
 
-// The same by value.
+// The same by value, which asks nothing of its callers, for whom `in_places_unique` is.
 pub fn in_places(l: [i32; 16]) -> [i32; 16]
     ensures { result ≡ in_places l }
 {
@@ -186,15 +177,13 @@ fn scaled(number: i32, scale: u32, round: u32, shift: u32) -> i32
     (number * (scale as i32) + (round as i32)) >> shift
 }
 
-// Each number of a slice rescaled, by the scale of its place.
+// Each number of a slice rescaled, by the scale of its place. It and `level_all` are a loop of two lines each, about what differs.
 pub fn scale_all(numbers: &mut [i32], scale: &[u32], round: u32, shift: u32)
     requires { (length numbers.old ≤ length scale.now) × ((k : ℕ) → k < length numbers.old → Scalable (get_or numbers.old k (pos 0)) (get_or scale.now k 0)) × (round ≤ 8) × (shift ≤ 4) }
     ensures { numbers.new ≡ tab (length numbers.old) (λ k. shr_z (get_or numbers.old k (pos 0) *ℤ pos (get_or scale.now k 0) +ℤ pos round) (2 ^ shift)) }
 {
-    let mut k = 0;
-    while k < numbers.len() {
-        numbers[k] = scaled(numbers[k], scale[k], round, shift);
-        k += 1;
+    for (k, number) in numbers.iter_mut().enumerate() {
+        *number = scaled(*number, scale[k], round, shift);
     }
 }
 
@@ -213,7 +202,7 @@ fn sample(prediction: u8, residual: i32) -> u8
     requires { Within 1000000 residual }
     ensures { result ≡ clip 255 (pos prediction +ℤ residual) }
 {
-    whole::inner::clip(prediction as i32 + residual, 255)
+    whole::inner::clip(i32::from(prediction) + residual, 255)
 }
 
 // Sixteen residuals added to their predicted samples, clipped, in their places.
@@ -221,8 +210,8 @@ fn add(samples: &mut [u8], residual: [i32; 16])
     requires { (length samples.old ≡ 16) × (Each 1000000 residual) }
     ensures { samples.new ≡ added 16 samples.old residual }
 {
-    for place in 0usize..16 {
-        samples[place] = sample(samples[place], residual[place]);
+    for (place, own) in samples.iter_mut().enumerate() {
+        *own = sample(*own, residual[place]);
     }
 }
 
@@ -238,7 +227,7 @@ pub(crate) fn rebuild_over(samples: &mut [u8], numbers: [i32; 16])
 pub fn all_zero(numbers: [i32; 16]) -> bool
     ensures { result ≡ eqb (first_outside (pos 0) (pos 0) numbers) 16 }
 {
-    whole::inner::first_outside(&numbers, 0, 0) == 16
+    numbers == [0; 16]
 }
 
 // The samples of a prediction and of sixteen rescaled numbers.

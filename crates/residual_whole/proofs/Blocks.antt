@@ -3,7 +3,7 @@
 --     side_count                                     as many blocks as a DC path has values
 --     Square, square                                 what is known of a side
 --     room                                           each block lies among the samples
---     Putting: putting_none, putting_more, putting_done     a loop over b that puts `make b` into block b
+--     Putting: putting_more, putting_done     a loop over b that puts `make b` into block b
 --     blocks_bytes, part_of_blocks                   an area by its blocks: bytes; block b is `make b`
 --     place_lt, block_of_place, stored_by_place      places in raster order; numbers stored by the places of their blocks
 -- Assumes nothing.
@@ -11,8 +11,8 @@ use mathlib.Core.Path.{◌≡◌, sym, ap, ◌∙◌}
 use mathlib.Core.Bool.{Bool, ◌&&◌}
 use mathlib.Core.List.{List}
 use mathlib.Core.Logic.{⊎_elim}
-use Prim.Native.Nat.{ℕ, ◌+◌, ◌*◌, ◌/◌, ◌%◌, ◌<◌, ◌≤◌, zero-le}
-use native.Mathlib.Nat.{not-suc-le-zero, eq-or-lt_of_le, div-add-mod', mul-le-mul_right}
+use Prim.Native.Nat.{ℕ, ◌+◌, ◌*◌, ◌/◌, ◌%◌, ◌<◌, ◌≤◌}
+use native.Mathlib.Nat.{eq-or-lt_of_le, div-add-mod', mul-le-mul_right}
 use native.Mathlib.Omega.{arith}
 use lib.Dec.{T, eqb, leb, ltb, eqb→eq, leb→le, ltb→lt}
 use lib.ListN.{length, get_or}
@@ -103,9 +103,6 @@ module _ (s : ℕ) (make : ℕ → List ℕ) where
     pub below : b ≤ blocks_of s
     pub long : length area ≡ s * s
     pub is : (i : ℕ) → i < s * s → holder i < b → get_or area i 0 ≡ sample_of i
-
-  pub putting_none : (area : List ℕ) → length area ≡ s * s → Putting area 0
-  putting_none area e = record { below = zero-le; long = e; is = λ i h o. absurd (not-suc-le-zero o) }
 
   -- a place by its column and row
   spot : (i : ℕ) → i / s * s + i % s ≡ i

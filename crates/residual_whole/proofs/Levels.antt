@@ -1,7 +1,7 @@
 -- What the coder computes of a macroblock is what the definitions say, for either side.
 --     residual_within, dc_within                 of bytes: residuals within 255, DC coefficients within 4080
 --     length_dc, dc_each, length_ac              a DC coefficient for each block, fifteen AC levels
---     Coding: coding_none, coding_more, coding_dc, coding_ac     the loop over the blocks
+--     Coding: coding_none, coding_more, coding_dc     the loop over the blocks
 --     coded_whole                                and the DC levels before them
 -- Assumes nothing.
 use mathlib.Core.Path.{◌≡◌, sym, ap, subst, ◌∙◌}
@@ -16,7 +16,7 @@ use lib.ListN.{length, get_or, set, take, drop, length-drop}
 use lib.Seq.{drop_at, length-take-le}
 use Rattle.lists.specs.Bytes.{Bytes}
 use Rattle.lists.specs.Parts.{parts}
-use Rattle.lists.proofs.Parts.{Growing, growing_part, growing_done, parts_more, part_home}
+use Rattle.lists.proofs.Parts.{Growing, growing_part, parts_more}
 use Rattle.lists.proofs.Tab.{length_tab}
 use Rattle.lists.proofs.Stores.{Storing, storing_none, storing_more, storing_done}
 use Rattle.whole.specs.Bounds.{Within, Each}
@@ -26,13 +26,12 @@ use Rattle.transform.proofs.Bounds.{forward_within}
 use Rattle.residual.specs.Levels.{quantized}
 use Rattle.residual.proofs.Order.{length_zigzag}
 use Rattle.dc.specs.Path.{ac_of}
-use Rattle.dc.proofs.Levels.{dc_levels_length}
 use Rattle.block.proofs.Laws.{residual_small}
 use Rattle.picture.specs.Order.{column_in, row_in}
 use Rattle.picture.proofs.Bytes.{block_bytes}
 use Rattle.residual_whole.specs.Area.{Sided, blocks_of, raster_place, raster_block}
 use Rattle.residual_whole.specs.Coded.{residual_in, whole_dc, dc_levels, whole_levels}
-use Rattle.residual_whole.proofs.Blocks.{square, side_count, block_of_place, stored_by_place}
+use Rattle.residual_whole.proofs.Blocks.{square, block_of_place, stored_by_place}
 
 module _ (s : ℕ) (samples prediction : List ℕ) where
   -- the DC coefficient and the AC levels of block b
@@ -120,20 +119,12 @@ module _ (s qp : ℕ) (samples prediction : List ℕ) (start zeros : List ℤ) w
           storing_done _ _ (blocks_of s) c.stored h ∙ stored_by_place s side (dc_in s samples prediction) (pos 0) zeros c.long in
           (e, subst (Each 4080) (sym e) (dc_each s samples prediction side 4080 (λ k l. c.small k (omega arith))))
 
-      pub coding_ac : levels ≡ take (blocks_of s) start ++ parts (blocks_of s) (ac_beside s samples prediction qp)
-      coding_ac =
-          let e : b ≡ blocks_of s = omega (arith, c.stored.below) in
-          growing_done (rw e at c.filled) (omega (arith, c.room, (square s side).levels))
-
--- and the DC levels w of the coefficients have been stored in front
-pub coded_whole : (s : ℕ) → Sided s → (qp : ℕ) (samples prediction : List ℕ) (start : List ℤ) {levels coefficients w : List ℤ} (n : ℕ) → n ≡ blocks_of s → length start ≡ s * s
+-- and the DC levels w of the coefficients stand in front
+pub coded_whole : (s : ℕ) → Sided s → (qp : ℕ) (samples prediction : List ℕ) (start : List ℤ) {levels coefficients w : List ℤ} → length start ≡ s * s
     → coefficients ≡ whole_dc s samples prediction → levels ≡ take (blocks_of s) start ++ parts (blocks_of s) (ac_beside s samples prediction qp) → w ≡ dc_levels (blocks_of s) qp coefficients
-    → put_mid 0 (n - 0) levels w ≡ whole_levels s qp samples prediction
+    → w ++ drop (blocks_of s) levels ≡ whole_levels s qp samples prediction
 unfolding whole_levels
-coded_whole s side qp samples prediction start {levels} {coefficients} {w} n is-n long is_c is_l is-w =
-    let m = ap length is-w ∙ dc_levels_length (blocks_of s) (side_count s side) qp coefficients in
+coded_whole s side qp samples prediction start {levels} {coefficients} {w} long is_c is_l is_w =
     let back : drop (blocks_of s) levels ≡ parts (blocks_of s) (ac_beside s samples prediction qp) =
     ap (drop (blocks_of s)) is_l ∙ drop_at (take (blocks_of s) start) (parts (blocks_of s) (ac_beside s samples prediction qp)) (blocks_of s) (length-take-le (blocks_of s) start (omega (arith, (square s side).levels))) in
-    part_home levels w 0 n (omega arith) (omega (arith, m))
-    ∙ ap (λ (k : ℕ). w ++ drop k levels) (let z : 0 + length w ≡ blocks_of s = omega (arith, m) in z)
-    ∙ (λ i. (is-w ∙ ap (dc_levels (blocks_of s) qp) is_c) i ++ back i)
+    (λ i. (is_w ∙ ap (dc_levels (blocks_of s) qp) is_c) i ++ back i)

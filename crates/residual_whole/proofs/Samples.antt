@@ -3,28 +3,32 @@
 --     ac_each, places_small                 a bound of the levels is one of a block's AC levels behind a 0, also in raster places
 --     ac_step, step_some                    where the code finds an AC level
 --     length_values                         a DC value for each block
+--     all_fit_is                            the test of RANGE as the code makes it
 --     values_fit, ac_numbers_fit             what the two tests of RANGE say of the numbers
 --     whole_bytes                           what is rebuilt: bytes
 --     nothing_rebuilt                       a block whose DC value and levels are all 0 is its prediction
 -- Assumes nothing.
 use mathlib.Core.Path.{◌≡◌, refl, sym, ap, ◌∙◌}
-use mathlib.Core.Bool.{true, not, ◌||◌}
+use mathlib.Core.Bool.{Bool, true, false, true≢false, not, ◌||◌}
 use mathlib.Core.List.{List, [], ◌∷◌}
 use Prim.Native.Nat.{ℕ, zero, suc, ◌+◌, ◌*◌, ◌-◌, ◌<◌, zero-le}
 use native.Mathlib.Nat.{not-suc-le-zero}
 use native.Mathlib.Omega.{arith}
-use borrow.Author.Tests.{eqb-true, ne_eqb, not-false}
+use borrow.Author.Tests.{eq-eqb, eqb-true, ne_eqb, not-false}
 use lib.Dec.{eqb, ltb, ltb→lt}
-use lib.IntN.{ℤ, pos}
+use lib.IntN.{ℤ, pos, negsuc}
 use lib.ListN.{length, get_or, set, take, drop, length-set}
 use lib.Seq.{get_or-take, get_or-drop}
+use Rattle.std.specs.Bool.{MatchBool}
+use Rattle.std.specs.List.{AllWithin, HoldsAt}
 use Rattle.lists.specs.Bytes.{Bytes}
 use Rattle.lists.specs.Tab.{tab}
 use Rattle.lists.proofs.Every.{every_at, either}
 use Rattle.lists.proofs.First.{first_before}
 use Rattle.lists.proofs.Tab.{length_tab}
 use Rattle.whole.specs.Bounds.{Within, Each}
-use Rattle.whole.specs.Range.{first_outside}
+use Rattle.whole.specs.Range.{inside, first_outside}
+use Rattle.whole.proofs.Range.{all_inside, none_outside}
 use Rattle.whole.proofs.Lists.{each_take, each_drop}
 use Rattle.quantizer.specs.Tables.{step_of}
 use Rattle.residual.specs.Entry.{first_wide}
@@ -64,6 +68,14 @@ pub step_some : (place : ℕ) → 0 < place → place < 16 → 0 < step_of place
 step_some place some h = ltb→lt _ _ (either _ _ (every_at 16 (λ i. eqb i 0 || ltb 0 (step_of i)) tt place h) (ne_eqb place 0 (λ e. omega arith)))
 
 -- ---- RANGE
+
+-- numbers that each fit, or one that does not
+pub all_fit_is : (l : List ℤ) (r : Bool)
+    → MatchBool r (AllWithin (λ z. inside (negsuc 32767) (pos 32767) z ≡ true) l 0 (length l)) ((k : ℕ) × (k < length l) × HoldsAt (λ z. inside (negsuc 32767) (pos 32767) z ≡ false) l k)
+    → r ≡ eqb (first_wide l) (length l)
+all_fit_is l true h = sym (eq-eqb (first_wide l) (length l) (all_inside (negsuc 32767) (pos 32767) l (λ i k. h i (pos 0) zero-le k)))
+all_fit_is l false h =
+    sym (ne_eqb (first_wide l) (length l) (λ e. true≢false (sym (none_outside (negsuc 32767) (pos 32767) l (omega arith) h.0 h.1) ∙ h.2 (pos 0))))
 
 module _ (s : ℕ) (side : Sided s) (qp : ℕ) (levels : List ℤ) where
   pub length_values : length (values_in s qp levels) ≡ blocks_of s

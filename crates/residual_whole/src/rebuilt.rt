@@ -1,14 +1,16 @@
 // The blocks of a macroblock, from levels to samples.
-ghost use Rattle.std.specs.Prelude.{true, ◌≡◌, ◌∷◌, ◌*◌, ◌<◌, ◌≤◌, pos, length};
+ghost use Rattle.std.specs.Prelude.{true, eqb, ◌≡◌, ◌∷◌, ◌*◌, ◌<◌, ◌≤◌, pos, length};
 ghost use Rattle.whole.specs.Bounds.{Within, Each};
 ghost use Rattle.quantizer.specs.Range.{highest};
+ghost use Rattle.residual.specs.Entry.{first_wide};
 ghost use Rattle.residual.specs.Order.{in_zigzag, in_places};
 ghost use Rattle.residual.specs.Rebuild.{rebuilt_samples, rescaled_with_dc};
 ghost use Rattle.residual_whole.specs.Area.{Sided, blocks_of, part_in};
-ghost use Rattle.residual_whole.specs.Rebuilt.{ac_in, values_in, whole_samples, dc_fits, ac_numbers, first_ac};
+ghost use Rattle.residual_whole.specs.Rebuilt.{ac_in, values_in, whole_samples, dc_fits, ac_numbers, ac_fits, first_ac};
 
 use crate::area;
 use quantizer::Quantizer;
+use std::array;
 
 // The AC levels of block b in their raster places, with 0 in the place of the DC. Read where they stand: a copy that is read again at once is
 // dear.
@@ -18,41 +20,50 @@ fn ac(s: usize, levels: &[i32], b: usize) -> [i32; 16]
 {
     let before = s * s / 16 + 15 * b - 1;
     let steps = quantizer::inner::steps();
-    let mut out = [0i32; 16];
-    for place in 1usize..16 {
-        out[place] = levels[before + steps[place]];
-    }
-    out
+    array::from_fn(|place| {
+        if place == 0 {
+            0
+        } else {
+            levels[before + steps[place]]
+        }
+    })
 }
 
-// The DC values of luma's blocks, in raster order.
-pub(crate) fn luma_dc(quantizer: Quantizer, levels: &[i32]) -> [i32; 16]
-    requires { (quantizer.qp ≤ highest) × (length levels.now ≡ 256) × (Each 32768 levels.now) }
-    ensures { result ≡ values_in 16 quantizer.qp levels.now }
+// The DC values of the blocks, in raster order.
+pub(crate) fn dc_values(s: usize, quantizer: Quantizer, levels: &[i32], values: &mut [i32])
+    requires { (Sided s) × (quantizer.qp ≤ highest) × (length levels.now ≡ s * s) × (Each 32768 levels.now) × (length values.old ≡ blocks_of s) }
+    ensures { values.new ≡ values_in s quantizer.qp levels.now }
 {
-    let mut l = [0i32; 16];
-    whole::inner::copy(&levels[0..16], &mut l);
-    dc::inner::luma_values(quantizer, l)
+    let count = values.len();
+    values.copy_from_slice(&levels[..count]);
+    dc::inner::values_over(quantizer, values);
 }
 
-// Those of chroma's.
-pub(crate) fn chroma_dc(quantizer: Quantizer, levels: &[i32]) -> [i32; 4]
-    requires { (quantizer.qp ≤ highest) × (length levels.now ≡ 64) × (Each 32768 levels.now) }
-    ensures { result ≡ values_in 8 quantizer.qp levels.now }
+// Whether numbers fit 16 bits.
+pub(crate) fn all_fit(numbers: &[i32]) -> bool
+    ensures { result ≡ eqb (first_wide numbers.now) (length numbers.now) }
 {
-    let mut l = [0i32; 4];
-    whole::inner::copy(&levels[0..4], &mut l);
-    dc::inner::chroma_values(quantizer, l)
+    numbers
+        .iter()
+        .all(|z| whole::inner::inside(*z, -32768, 32767))
 }
 
 // The rescaled AC levels of block b, in the order of the levels.
-pub(crate) fn ac_rescaled(s: usize, quantizer: Quantizer, levels: &[i32], b: usize) -> [i32; 16]
+fn ac_rescaled(s: usize, quantizer: Quantizer, levels: &[i32], b: usize) -> [i32; 16]
     requires { (Sided s) × (quantizer.qp ≤ highest) × (length levels.now ≡ s * s) × (Each 32768 levels.now) × (b < blocks_of s) }
     ensures { result ≡ in_zigzag (ac_numbers s quantizer.qp levels.now b) }
 {
     let mut numbers = residual::inner::rescaled(quantizer, ac(s, levels, b));
     numbers[0] = 0;
     residual::inner::in_zigzag(numbers)
+}
+
+// Whether they fit 16 bits.
+pub(crate) fn ac_fits(s: usize, quantizer: Quantizer, levels: &[i32], b: usize) -> bool
+    requires { (Sided s) × (quantizer.qp ≤ highest) × (length levels.now ≡ s * s) × (Each 32768 levels.now) × (b < blocks_of s) }
+    ensures { result ≡ ac_fits s quantizer.qp levels.now b }
+{
+    all_fit(&ac_rescaled(s, quantizer, levels, b))
 }
 
 // The samples of block b beside its DC value: its predicted ones where that and all its levels are 0.
@@ -70,10 +81,8 @@ fn block_samples(
 {
     let own = area::part(prediction, s, b);
     let placed = ac(s, levels, b);
-    if dc == 0 {
-        if residual::inner::all_zero(placed) {
-            return own;
-        }
+    if dc == 0 && residual::inner::all_zero(placed) {
+        return own;
     }
     let mut numbers = residual::inner::rescaled(quantizer, placed);
     numbers[0] = dc;

@@ -21,11 +21,14 @@ use Rattle.picture.specs.Plane.{layout_of, stride, sample_at, block_at}
 use Rattle.sheet.specs.Code.{present_total}
 use Rattle.sheet.specs.Entry.{sheet_tests, Sheets}
 use Rattle.sheet.specs.Errors.{is_present, present_count, sample_count, square_sum, present_sum}
-use Rattle.sheet.specs.Means.{nothing, given, given_of, divided_once, sheet_of}
+use Rattle.sheet.specs.Means.{given_of, divided_once, sheet_of}
 use Rattle.sheet.specs.Promises.{AgreeInPresent}
-use Rattle.sheet.specs.declared.Sheeted.{Sheeted}
 use Rattle.sheet.proofs.Outcome.{same_sheeted}
 use Rattle.sheet.proofs.Places.{present_pos}
+use Rattle.std.specs.Prelude.{Result, Option}
+use Rattle.refusal.specs.declared.Refusal.{Refusal}
+use Rattle.sheet.specs.declared.Sheet.{Sheet}
+use Rattle.std.specs.Prelude.{Some, None}
 
 -- a sample of a block that is the same in two planes
 sample_same : (n s x y : ℕ) (a b : List ℕ) → block_at n s x y a ≡ block_at n s x y b → (i j : ℕ) → i < n → j < n → sample_at s a (x + i) (y + j) ≡ sample_at s b (x + i) (y + j)
@@ -62,16 +65,16 @@ module _ (l : Layout) (map original rebuilt original' rebuilt' : List ℕ) (o : 
 
   -- the same sheet, or none
   pub given_same : given_of l original rebuilt map ≡ given_of l original' rebuilt' map
-  given_same = let n = present_count (l.width * l.height) map in λ k. cond (eqb n 0) nothing (given (sheet_same k))
+  given_same = let n = present_count (l.width * l.height) map in λ k. cond (eqb n 0) None (Some (sheet_same k))
 
 pub answers_same : (width height : ℕ) (map original rebuilt original' rebuilt' : List ℕ)
     → AgreeInPresent (layout_of width height) map original original'
     → AgreeInPresent (layout_of width height) map rebuilt rebuilt'
-    → (x y : Sheeted) → Sheets width height original rebuilt map x → Sheets width height original' rebuilt' map y → x ≡ y
+    → (x y : Result (Option Sheet) Refusal) → Sheets width height original rebuilt map x → Sheets width height original' rebuilt' map y → x ≡ y
 answers_same width height map original rebuilt original' rebuilt' o r x y p q =
     let v : chain (sheet_tests width height original rebuilt map) ≡ chain (sheet_tests width height original' rebuilt' map) = rw (o.long, r.long) in
     let g = given_same (layout_of width height) map original rebuilt original' rebuilt' o r in
-    same_sheeted x y (says_same p.says ∙ v ∙ sym (says_same q.says)) (p.sheet ∙ (λ k. written (v k) (g k) nothing) ∙ sym q.sheet)
+    same_sheeted x y (says_same p.says ∙ v ∙ sym (says_same q.says)) (p.sheet ∙ (λ k. written (v k) (g k) None) ∙ sym q.sheet)
 
 -- ---- the count
 

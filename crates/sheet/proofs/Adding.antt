@@ -1,41 +1,14 @@
 -- Four sums at once, over samples, rows or macroblocks alike.
---     at_most_more           sums of few samples are sums of more
---     single                 one sample
---     taken_part, left_out   a part that is taken, and one that is left out
 --     Adding: adding_none, adding_below, adding_more, adding_done     the loop that adds four sums in each turn
 -- Assumes nothing.
-use mathlib.Core.Path.{◌≡◌, refl, sym, subst, ◌∙◌}
-use mathlib.Core.Bool.{Bool, true, false, cond}
+use mathlib.Core.Path.{◌≡◌, sym, subst}
 use mathlib.Core.List.{List}
-use Prim.Native.Nat.{ℕ, ◌+◌, ◌*◌, ◌<◌, ◌≤◌, zero-le}
+use Prim.Native.Nat.{ℕ, ◌+◌, ◌*◌, ◌<◌, ◌≤◌}
 use native.Mathlib.Nat.{mul-le-mul_left}
 use native.Mathlib.Omega.{arith}
 use Rattle.lists.specs.Total.{total}
 use Rattle.lists.proofs.Total.{Totalling, totalling_none, totalling_more, totalling_done}
 use Rattle.sheet.specs.Code.{Four, no_four, add_four, absolute_at, squared_at, sample_in, OfAtMost, SumsOver}
-
-pub at_most_more : {b c : ℕ} {v : Four} → OfAtMost b v → b ≤ c → OfAtMost c v
-at_most_more h l = record {
-  absolute = omega (arith, h.absolute);
-  squared = omega (arith, h.squared);
-  rebuilt = omega (arith, h.rebuilt);
-  original = omega (arith, h.original);
-}
-
-pub single : (original rebuilt : List ℕ) (at : ℕ) {d a s r o : ℕ} → d ≡ absolute_at original rebuilt at → (a ≡ d) × (a ≤ 255) → (s ≡ d * d) × (s ≤ 65025)
-    → (r ≡ sample_in rebuilt at) × (r ≤ 255) → (o ≡ sample_in original at) × (o ≤ 255)
-    → SumsOver 1 (λ g. g at) original rebuilt (record { absolute = a; squared = s; rebuilt = r; original = o })
-single original rebuilt at e a s r o = record {
-  is = λ i. record { absolute = (a.0 ∙ e) i; squared = (s.0 ∙ (λ j. e j * e j)) i; rebuilt = r.0 i; original = o.0 i };
-  low = record { absolute = a.1; squared = s.1; rebuilt = r.1; original = o.1 };
-}
-
-module _ {b : ℕ} (G : (ℕ → ℕ) → ℕ) (original rebuilt : List ℕ) {t : Bool} {v : Four} where
-  pub taken_part : t ≡ true → SumsOver b G original rebuilt v → SumsOver b (λ g. cond t (G g) 0) original rebuilt v
-  taken_part e p = rw e p
-
-  pub left_out : t ≡ false → v ≡ no_four → SumsOver b (λ g. cond t (G g) 0) original rebuilt v
-  left_out e z = rw (e, z) (record { is = refl; low = record { absolute = zero-le; squared = zero-le; rebuilt = zero-le; original = zero-le } })
 
 -- after k of n turns, each over at most b samples; F g k is what turn k adds of a rule g
 pub record Adding (n b : ℕ) (F : (ℕ → ℕ) → ℕ → ℕ) (original rebuilt : List ℕ) (v : Four) (k : ℕ) : Type 0 where

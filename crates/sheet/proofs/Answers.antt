@@ -18,13 +18,15 @@ use Rattle.lists.proofs.Total.{total_low, term_low}
 use Rattle.refusal.proofs.Same.{says_same}
 use Rattle.head.specs.Entry.{size_holds}
 use Rattle.picture.specs.Plane.{layout_of}
-use Rattle.sheet.specs.Entry.{first_flag, plane_tests, sheet_tests, said_sheeted, given_in, Sheets}
+use Rattle.sheet.specs.Entry.{first_flag, plane_tests, sheet_tests, given_in, Sheets}
 use Rattle.sheet.specs.Errors.{is_present, present_count}
-use Rattle.sheet.specs.Means.{nothing, given, sheet_of, given_of}
+use Rattle.sheet.specs.Means.{sheet_of, given_of}
 use Rattle.sheet.specs.declared.Sheet.{Sheet}
-use Rattle.sheet.specs.declared.Sheeted.{Sheeted}
-use Rattle.sheet.specs.declared.Sheeted.TheVariants as answer
 use Rattle.sheet.proofs.Outcome.{same_sheeted}
+use Rattle.std.specs.Prelude.{Result, Option}
+use Rattle.refusal.specs.Number.{said}
+use Rattle.refusal.specs.declared.Refusal.{Refusal}
+use Rattle.std.specs.Prelude.{Ok, Some, None}
 
 -- ---- a count of 0
 
@@ -40,11 +42,11 @@ counted_none : (n : ℕ) (map : List ℕ) → ((m : ℕ) → m < n → is_presen
 unfolding present_count
 counted_none n map h = omega (arith, total_low n (λ m. cond (is_present map m) 1 0) 0 (λ m l. rw (h m l) (omega arith)))
 
-given_none : (t : Bool) (u : Sheet) → cond t nothing (given u) ≡ nothing → t ≡ true
+given_none : (t : Bool) (u : Sheet) → cond t None (Some u) ≡ None → t ≡ true
 given_none true u e = refl
 given_none false u e = cc
 
-given_some : (t : Bool) {s : Sheet} (u : Sheet) → given s ≡ cond t nothing (given u) → (t ≡ false) × (s ≡ u)
+given_some : (t : Bool) {s : Sheet} (u : Sheet) → Some s ≡ cond t None (Some u) → (t ≡ false) × (s ≡ u)
 given_some true u e = (cc, cc)
 given_some false u e = (refl, cc)
 
@@ -56,38 +58,38 @@ module _ (width height : ℕ) (original rebuilt map : List ℕ) where
 
   -- "With nothing present the answer is 'no sheet', and exactly then"
   pub none_given : AllPass (plane_tests width height original rebuilt map)
-      → (given_of (layout_of width height) original rebuilt map ≡ nothing) ↔ ((m : ℕ) → m < width * height → get_or map m 0 ≡ 0)
+      → (given_of (layout_of width height) original rebuilt map ≡ None) ↔ ((m : ℕ) → m < width * height → get_or map m 0 ≡ 0)
   none_given a = (only, if)
     where
-      only : given_of (layout_of width height) original rebuilt map ≡ nothing → (m : ℕ) → m < width * height → get_or map m 0 ≡ 0
+      only : given_of (layout_of width height) original rebuilt map ≡ None → (m : ℕ) → m < width * height → get_or map m 0 ≡ 0
       only g m h =
           let n = eqb-true (present_count (width * height) map) 0 (given_none _ _ g) in
           let low = flag_low (eqb-true (length map) (width * height) a.1.1.0) (eqb-true (first_flag map) (length map) a.1.1.1.0) m h in
           let off : (get_or map m 0 ≡ 1 → ⊥) = eqb-false (get_or map m 0) 1 (none_counted (width * height) map n m h) in
           omega arith
 
-      if : ((m : ℕ) → m < width * height → get_or map m 0 ≡ 0) → given_of (layout_of width height) original rebuilt map ≡ nothing
+      if : ((m : ℕ) → m < width * height → get_or map m 0 ≡ 0) → given_of (layout_of width height) original rebuilt map ≡ None
       if h =
           let n = counted_none (width * height) map (λ m l. ne_eqb (get_or map m 0) 1 (λ e. omega (arith, h m l))) in
           simp (eq-eqb (present_count (width * height) map) 0 n)
 
-  pub nothing_exactly_if : (r : Sheeted) → Sheets width height original rebuilt map r
-      → (r ≡ answer.Nothing) ↔ (AllPass (sheet_tests width height original rebuilt map) × ((m : ℕ) → m < width * height → get_or map m 0 ≡ 0))
+  pub nothing_exactly_if : (r : Result (Option Sheet) Refusal) → Sheets width height original rebuilt map r
+      → (r ≡ Ok None) ↔ (AllPass (sheet_tests width height original rebuilt map) × ((m : ℕ) → m < width * height → get_or map m 0 ≡ 0))
   nothing_exactly_if r p = (only, if)
     where
       come : chain (sheet_tests width height original rebuilt map) ≡ pass → given_in r ≡ given_of (layout_of width height) original rebuilt map
-      come v = holds_new nothing v p.sheet
+      come v = holds_new None v p.sheet
 
-      only : r ≡ answer.Nothing → AllPass (sheet_tests width height original rebuilt map) × ((m : ℕ) → m < width * height → get_or map m 0 ≡ 0)
+      only : r ≡ Ok None → AllPass (sheet_tests width height original rebuilt map) × ((m : ℕ) → m < width * height → get_or map m 0 ≡ 0)
       only e =
-          let v : chain (sheet_tests width height original rebuilt map) ≡ pass = sym (says_same p.says) ∙ ap said_sheeted e in
+          let v : chain (sheet_tests width height original rebuilt map) ≡ pass = sym (says_same p.says) ∙ ap said e in
           let a = (chain_exactly_if (sheet_tests width height original rebuilt map)).passes.0 v in
           (a, (none_given a.1).0 (sym (come v) ∙ ap given_in e))
 
-      if : AllPass (sheet_tests width height original rebuilt map) × ((m : ℕ) → m < width * height → get_or map m 0 ≡ 0) → r ≡ answer.Nothing
+      if : AllPass (sheet_tests width height original rebuilt map) × ((m : ℕ) → m < width * height → get_or map m 0 ≡ 0) → r ≡ Ok None
       if h =
           let v = (chain_exactly_if (sheet_tests width height original rebuilt map)).passes.1 h.0 in
-          same_sheeted r answer.Nothing (says_same p.says ∙ v) (come v ∙ (none_given h.0.1).1 h.1)
+          same_sheeted r (Ok None) (says_same p.says ∙ v) (come v ∙ (none_given h.0.1).1 h.1)
 
   -- what is known where a sheet came back
   pub record SheetOutcome (s : Sheet) : Type 0 where
@@ -95,14 +97,14 @@ module _ (width height : ℕ) (original rebuilt map : List ℕ) where
     pub some : 0 < present_count (width * height) map
     pub is : s ≡ sheet_of (layout_of width height) original rebuilt map
 
-  pub given_outcome : {s : Sheet} → size_holds width height ≡ true → given s ≡ given_of (layout_of width height) original rebuilt map → SheetOutcome s
+  pub given_outcome : {s : Sheet} → size_holds width height ≡ true → Some s ≡ given_of (layout_of width height) original rebuilt map → SheetOutcome s
   given_outcome size e =
       let g = given_some _ _ e in
       let off : (present_count (width * height) map ≡ 0 → ⊥) = eqb-false (present_count (width * height) map) 0 g.0 in
       record { size = size; some = omega arith; is = g.1 }
 
-  pub sheet_outcome : {s : Sheet} → Sheets width height original rebuilt map (answer.Sheet s) → SheetOutcome s
+  pub sheet_outcome : {s : Sheet} → Sheets width height original rebuilt map (Ok (Some s)) → SheetOutcome s
   sheet_outcome p =
       let v : chain (sheet_tests width height original rebuilt map) ≡ pass = sym (says_same p.says) in
       let a = (chain_exactly_if (sheet_tests width height original rebuilt map)).passes.0 v in
-      given_outcome a.0 (holds_new nothing v p.sheet)
+      given_outcome a.0 (holds_new None v p.sheet)

@@ -1,6 +1,5 @@
 -- Whole numbers as doubles, and their quotients.
---     casts                    a whole number of at most 53 digits may be cast
---     whole                    and is that number exactly
+--     whole                    a whole number of at most 53 digits, cast, is that number exactly
 --     divided_rounds           a quotient of two such numbers is the exact fraction, rounded once
 --     divided_by_power         and by a power of two it is the fraction itself
 -- Assumes nothing.
@@ -9,10 +8,10 @@ use mathlib.Core.Bool.{Bool, true, false, cond}
 use Prim.Native.Nat.{ℕ, suc, ◌+◌, ◌-◌, ◌*◌, ◌^◌, ◌≤◌, ◌<◌}
 use native.Mathlib.Nat.{mul-one, mul_assoc, mul-pos, lt_of_lt_of_le}
 use native.Mathlib.Omega.{arith}
-use lib.Dec.{T, eqb, le→leb, lt→ltb}
+use lib.Dec.{eqb}
 use lib.IntN.{ℤ, pos, negsuc, nat_abs}
 use lib.Pow.{pow-add, pow_pos, pow_mono, shl_lt}
-use lib.Ieee.{Float, nan, inf, fin, binary64, up, down, round, of_int, div, in_float}
+use lib.Ieee.{Float, nan, inf, fin, binary64, up, down, round, of_int, div}
 use lib.Ieee.Fits.{down_pos}
 use lib.Ieee.Exact.{HasValue, round_exact}
 use lib.Ieee.Scale.{round_same}
@@ -22,11 +21,6 @@ use Rattle.whole.specs.Bounds.{Within}
 use Rattle.sheet.specs.Code.{longest}
 use Rattle.sheet.specs.Means.{divided_once}
 use Rattle.sheet.specs.Promises.{is_negative, IsFraction, Converts, rounded_once}
-
-pub casts : (z : ℤ) → Within longest z → T (in_float binary64 z)
-unfolding in_float
-casts (pos n) h = le→leb n 9007199254740992 (omega arith)
-casts (negsuc n) h = lt→ltb n 9007199254740992 (omega arith)
 
 -- a fraction with a power of two below it, of a number of at most 53 digits
 over_power : (s : Bool) (n k : ℕ) → n < 9007199254740992 → k ≤ 1074 → HasValue (round binary64 s n (2 ^ k)) s n (2 ^ k)

@@ -3,8 +3,10 @@ pub mod Adding
 pub mod Answers
 pub mod Exact
 pub mod Floats
+pub mod Given
 pub mod Outcome
 pub mod Places
+pub mod Present
 pub mod Promised
 pub mod Refuses
 pub mod Unique

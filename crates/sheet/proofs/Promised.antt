@@ -5,7 +5,6 @@
 -- a holds the arguments of a call, r is its answer and e what is lent at its exit; with a stroke those of a second call.
 -- Assumes nothing.
 use mathlib.Core.Path.{◌≡◌, sym, subst}
-use mathlib.Core.List.{List}
 use mathlib.Core.Logic.{◌↔◌}
 use Prim.Native.Nat.{ℕ, ◌*◌, ◌^◌, ◌<◌, ◌≤◌}
 use native.Mathlib.Omega.{arith}
@@ -21,40 +20,29 @@ use Rattle.sheet.specs.Entry.{sheet_tests, Sheets}
 use Rattle.sheet.specs.Errors.{sample_count}
 use Rattle.sheet.specs.Promises.{IsFraction, rounded_once, OfEach, SumsExact, AgreeInPresent}
 use Rattle.sheet.specs.declared.Sheet.{Sheet}
-use Rattle.sheet.specs.declared.Sheeted.{Sheeted}
-use Rattle.sheet.specs.declared.Sheeted.TheVariants as answer
 use Rattle.sheet.proofs.Absent.{answers_same}
 use Rattle.sheet.proofs.Answers.{nothing_exactly_if, SheetOutcome, sheet_outcome}
 use Rattle.sheet.proofs.Exact.{sums_convert, each_rounded, each_exact}
+use Rattle.sheet.proofs.Given.{given}
 use Rattle.sheet.proofs.Outcome.{sound_of}
 use Rattle.sheet.proofs.quality_sheet.Kinds as quality_sheet
 use Rattle.sheet.proofs.quality_sheet.Reads as quality_sheet_reads
+use Rattle.std.specs.Prelude.{Result, Option}
+use Rattle.refusal.specs.declared.Refusal.{Refusal}
+use Rattle.std.specs.Prelude.{Ok, Some, None}
 
 module _ (κs : Lfts 3) (a : Dens κs quality_sheet.ps) where
-  abbrev width : ℕ
-  width = a.0
-
-  abbrev height : ℕ
-  height = a.1.0
-
-  abbrev original : List ℕ
-  original = a.1.1.0.now
-
-  abbrev rebuilt : List ℕ
-  rebuilt = a.1.1.1.0.now
-
-  abbrev map : List ℕ
-  map = a.1.1.1.1.0.now
+  open given a use {width, height, original, rebuilt, map}
 
   module _ (r : (res_t quality_sheet.r κs).Denot) (e : AtExit (ended_of 3 quality_sheet.ps quality_sheet.r) κs) (learnt : quality_sheet_reads.Learnt κs a r e) where
     -- "With nothing present the answer is 'no sheet', and exactly then"
-    pub no_sheet_exactly_if : (r ≡ answer.Nothing) ↔ (AllPass (sheet_tests width height original rebuilt map) × ((m : ℕ) → m < width * height → get_or map m 0 ≡ 0))
+    pub no_sheet_exactly_if : (r ≡ Ok None) ↔ (AllPass (sheet_tests width height original rebuilt map) × ((m : ℕ) → m < width * height → get_or map m 0 ≡ 0))
     no_sheet_exactly_if = nothing_exactly_if width height original rebuilt map r learnt
 
     -- a sheet that came back, of planes of bytes
-    module _ (s : Sheet) (came : r ≡ answer.Sheet s) (own : Bytes original) (back : Bytes rebuilt) where
+    module _ (s : Sheet) (came : r ≡ Ok (Some s)) (own : Bytes original) (back : Bytes rebuilt) where
       known : SheetOutcome width height original rebuilt map s
-      known = sheet_outcome width height original rebuilt map (subst (λ (x : Sheeted). Sheets width height original rebuilt map x) came learnt)
+      known = sheet_outcome width height original rebuilt map (subst (λ (x : Result (Option Sheet) Refusal). Sheets width height original rebuilt map x) came learnt)
 
       few : width * height ≤ 16384
       few = omega (arith, samples_fit (sound_of width height known.size))
@@ -80,14 +68,14 @@ module _ (κs : Lfts 3) (a : Dens κs quality_sheet.ps) where
 -- every macroblock present, the answers are the same
 pub absent_has_no_value : (κs κs' : Lfts 3) (a : Dens κs quality_sheet.ps) (a' : Dens κs' quality_sheet.ps) (r : (res_t quality_sheet.r κs).Denot) (r' : (res_t quality_sheet.r κs').Denot)
     (e : AtExit (ended_of 3 quality_sheet.ps quality_sheet.r) κs) (e' : AtExit (ended_of 3 quality_sheet.ps quality_sheet.r) κs')
-    → width κs' a' ≡ width κs a
-    → height κs' a' ≡ height κs a
-    → map κs' a' ≡ map κs a
-    → AgreeInPresent (layout_of (width κs a) (height κs a)) (map κs a) (original κs a) (original κs' a')
-    → AgreeInPresent (layout_of (width κs a) (height κs a)) (map κs a) (rebuilt κs a) (rebuilt κs' a')
+    → (given a').width ≡ (given a).width
+    → (given a').height ≡ (given a).height
+    → (given a').map ≡ (given a).map
+    → AgreeInPresent (layout_of (given a).width (given a).height) (given a).map (given a).original (given a').original
+    → AgreeInPresent (layout_of (given a).width (given a).height) (given a).map (given a).rebuilt (given a').rebuilt
     → quality_sheet_reads.Learnt κs a r e
     → quality_sheet_reads.Learnt κs' a' r' e'
     → r ≡ r'
 absent_has_no_value κs κs' a a' r r' e e' w h m o b p q =
-    answers_same (width κs a) (height κs a) (map κs a) (original κs a) (rebuilt κs a) (original κs' a') (rebuilt κs' a') o b r r' p
-    (coe 0 1 (i. Sheets (w i) (h i) (original κs' a') (rebuilt κs' a') (m i) r') q)
+    answers_same (given a).width (given a).height (given a).map (given a).original (given a).rebuilt (given a').original (given a').rebuilt o b r r' p
+    (coe 0 1 (i. Sheets (w i) (h i) (given a').original (given a').rebuilt (m i) r') q)

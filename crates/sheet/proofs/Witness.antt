@@ -22,7 +22,8 @@ use Rattle.picture.specs.Order.{block_table, table_place, column_in, row_in, blo
 use Rattle.picture.specs.Plane.{layout_of}
 use Rattle.sheet.specs.Entry.{first_flag, sheet_tests}
 use Rattle.sheet.specs.Errors.{signed_error, absolute_error, squared_error, present_count, sample_count, square_sum, present_sum}
-use Rattle.sheet.specs.Means.{nothing, given_of, divided_once}
+use Rattle.sheet.specs.Means.{given_of, divided_once}
+use Rattle.std.specs.Prelude.{None}
 
 -- n samples of 100, of 97
 abbrev hundreds : ℕ → List ℕ
@@ -60,7 +61,7 @@ pub rounded_twice : (divided_once (pos 1280) 768 ≡ fin false 7505999378950827 
 unfolding mul div of_int round units odd size climb span
 rounded_twice = (refl, refl)
 
-pub nothing_present : (original rebuilt : List ℕ) → given_of (layout_of 1 1) original rebuilt (0 ∷ []) ≡ nothing
+pub nothing_present : (original rebuilt : List ℕ) → given_of (layout_of 1 1) original rebuilt (0 ∷ []) ≡ None
 unfolding present_count total
 nothing_present original rebuilt = refl
 

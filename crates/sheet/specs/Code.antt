@@ -1,17 +1,16 @@
 -- What the private functions of the code tell, and ask. No contract of a public function cites this. Assumes nothing.
 use Rattle.std.specs.Prelude.{◌≡◌, cond, List, ℕ, ◌+◌, ◌*◌, ◌≤◌, eqb, pos, ◌-ℤ◌, length, get_or}
-use Rattle.lists.specs.Chain.{pass}
 use Rattle.lists.specs.Total.{total, gap}
 use Rattle.picture.specs.declared.Layout.{Layout}
 use Rattle.picture.specs.Order.{block_column, block_row}
 use Rattle.picture.specs.Plane.{stride, plane_length}
-use Rattle.sheet.specs.Entry.{said_sheeted, given_in}
 use Rattle.sheet.specs.Errors.{is_present}
-use Rattle.sheet.specs.Means.{nothing, given, divided_once}
+use Rattle.sheet.specs.Means.{divided_once}
 use Rattle.sheet.specs.declared.Sheet.{Sheet}
-use Rattle.sheet.specs.declared.Sheeted.{Sheeted}
 use Rattle.sheet.specs.declared.sums.Sums.{Sums}
 use Rattle.sheet.specs.declared.sums.Totals.{Totals}
+use Rattle.std.specs.Prelude.{Option}
+use Rattle.std.specs.Prelude.{Some, None}
 
 -- ---- four sums, none of which has a sign: the signed sum is the difference of the last two
 
@@ -115,7 +114,6 @@ sheet_from present t = record {
   signed = divided_once (pos t.rebuilt -ℤ pos t.original) (256 * present);
 }
 
--- the answer from so many macroblocks and their totals: the sheet, and of none nothing
-pub record Divides (present : ℕ) (t : Totals) (r : Sheeted) : Type 0 where
-  pub said : said_sheeted r ≡ pass
-  pub given : given_in r ≡ cond (eqb present 0) nothing (given (sheet_from present t))
+-- what comes of so many macroblocks and their totals: the sheet, and of none nothing
+abbrev pub divided_from : (present : ℕ) → Totals → Option Sheet
+divided_from present t = cond (eqb present 0) None (Some (sheet_from present t))

@@ -5,6 +5,7 @@ use Rattle.std.specs.Float.Ieee.{of_int, div}
 use Rattle.picture.specs.declared.Layout.{Layout}
 use Rattle.sheet.specs.Errors.{signed_error, absolute_error, squared_error, present_count, sample_count, present_sum}
 use Rattle.sheet.specs.declared.Sheet.{Sheet}
+use Rattle.std.specs.Prelude.{Option, Some, None}
 
 -- both become doubles, exactly (theorem `sums_exact`), and are divided with one rounding (`one_rounding`)
 abbrev pub divided_once : (sum : ℤ) (count : ℕ) → Float
@@ -18,14 +19,9 @@ sheet_of l original rebuilt map = record {
   signed = divided_once (present_sum l map (signed_error original rebuilt)) (sample_count l map);
 }
 
--- what comes back of a picture
-pub data Given : Type 0 where
-  nothing : Given
-  given : Sheet → Given
-
 -- "With nothing present the answer is 'no sheet', and exactly then"
-abbrev pub given_of : Layout → (original rebuilt map : List ℕ) → Given
-given_of l original rebuilt map = cond (eqb (present_count (l.width * l.height) map) 0) nothing (given (sheet_of l original rebuilt map))
+abbrev pub given_of : Layout → (original rebuilt map : List ℕ) → Option Sheet
+given_of l original rebuilt map = cond (eqb (present_count (l.width * l.height) map) 0) None (Some (sheet_of l original rebuilt map))
 
 -- ---- in an area of three doubles
 
@@ -34,6 +30,6 @@ abbrev pub means_of : Sheet → List Float
 means_of s = s.absolute ∷ s.squared ∷ s.signed ∷ []
 
 -- "zero must not be printed": without a sheet the area keeps what it held
-abbrev pub area_of : Given → List Float → List Float
-area_of nothing before = before
-area_of (given s) before = means_of s
+abbrev pub area_of : Option Sheet → List Float → List Float
+area_of None before = before
+area_of (Some s) before = means_of s

@@ -3,7 +3,7 @@ ghost use Rattle.std.specs.Prelude.{◌≡◌, length};
 ghost use Rattle.sheet.specs.Entry.{given_in, Writes};
 ghost use Rattle.sheet.specs.Means.{means_of, area_of};
 
-use crate::{Sheet, Sheeted, quality_sheet};
+use crate::{Sheet, quality_sheet};
 use refusal::Refusal;
 
 // Three means over the numbers of an area.
@@ -11,20 +11,16 @@ fn put_means(sheet: Sheet, out: &mut [f64])
     requires { length out.old ≡ 3 }
     ensures { out.new ≡ means_of sheet }
 {
-    out[0] = sheet.absolute;
-    out[1] = sheet.squared;
-    out[2] = sheet.signed;
+    out.copy_from_slice(&[sheet.absolute, sheet.squared, sheet.signed]);
 }
 
-// The three means of an answer; without a sheet the area keeps its numbers.
-fn put(sheeted: Sheeted, out: &mut [f64])
+// The three means of a sheet; without one the area keeps its numbers.
+fn put(given: Option<Sheet>, out: &mut [f64])
     requires { length out.old ≡ 3 }
-    ensures { out.new ≡ area_of (given_in sheeted) out.old }
+    ensures { out.new ≡ area_of given out.old }
 {
-    match sheeted {
-        Sheeted::Sheet(sheet) => put_means(sheet, out),
-        Sheeted::Nothing => {}
-        Sheeted::Refused(_) => {}
+    if let Some(sheet) = given {
+        put_means(sheet, out);
     }
 }
 
@@ -36,16 +32,16 @@ pub fn write_sheet(
     rebuilt: &[u8],
     map: &[u8],
     out: &mut [f64],
-) -> Sheeted
+) -> Result<Option<Sheet>, Refusal>
     ensures { Writes width height original.now rebuilt.now map.now out.old result out.new }
 {
     if !head::inner::size_holds(width, height) {
-        return Sheeted::Refused(Refusal::Size);
+        return Err(Refusal::Size);
     }
     if out.len() != 3 {
-        return Sheeted::Refused(Refusal::Length);
+        return Err(Refusal::Length);
     }
-    let sheeted = quality_sheet(width, height, original, rebuilt, map);
-    put(sheeted, out);
-    sheeted
+    let given = quality_sheet(width, height, original, rebuilt, map)?;
+    put(given, out);
+    Ok(given)
 }

@@ -19,43 +19,35 @@ pub struct Sheet {
     pub signed: f64,
 }
 
-// The answer where a sheet is asked for: with nothing present there is none.
-#[derive(Clone, Copy)]
-pub enum Sheeted {
-    Sheet(Sheet),
-    Nothing,
-    Refused(Refusal),
-}
-
-// The sheet of an original plane, a rebuilt plane and a map of macroblocks present.
+// The sheet of an original plane, a rebuilt plane and a map of macroblocks present; with nothing present there is none.
 pub fn quality_sheet(
     width: usize,
     height: usize,
     original: &[u8],
     rebuilt: &[u8],
     map: &[u8],
-) -> Sheeted
+) -> Result<Option<Sheet>, Refusal>
     ensures { Sheets width height original.now rebuilt.now map.now result }
 {
     if !head::inner::size_holds(width, height) {
-        return Sheeted::Refused(Refusal::Size);
+        return Err(Refusal::Size);
     }
     let count = width * height;
     if original.len() != 256 * count {
-        return Sheeted::Refused(Refusal::Length);
+        return Err(Refusal::Length);
     }
     if rebuilt.len() != 256 * count {
-        return Sheeted::Refused(Refusal::Length);
+        return Err(Refusal::Length);
     }
     if map.len() != count {
-        return Sheeted::Refused(Refusal::Length);
+        return Err(Refusal::Length);
     }
-    let flag = map::first_flag(map);
-    if flag != map.len() {
-        return Sheeted::Refused(Refusal::Flags(flag));
+    if let Some(flag) = map::first_flag(map) {
+        return Err(Refusal::Flags(flag));
     }
-    means::divided(
+    let layout = picture::inner::one_slice(width, height);
+    Ok(means::divided(
         map::present(map),
-        sums::over_picture(width, height, original, rebuilt, map),
-    )
+        sums::over_picture(layout, original, rebuilt, map),
+    ))
 }

@@ -1,20 +1,12 @@
 // The map of macroblocks present: a byte for each, by its number.
-ghost use Rattle.std.specs.Prelude.{cond, ◌≡◌, ◌≤◌, eqb, length};
-ghost use Rattle.sheet.specs.Entry.{first_flag};
+ghost use Rattle.std.specs.Prelude.{◌≡◌, eqb, length, nat_lt, position};
 ghost use Rattle.sheet.specs.Errors.{present_count};
 
-// The place of the first byte above 1, and the length where there is none.
-pub(crate) fn first_flag(map: &[u8]) -> usize
-    ensures { result ≡ first_flag map.now }
+// The place of the first byte above 1.
+pub(crate) fn first_flag(map: &[u8]) -> Option<usize>
+    ensures { result ≡ position (λ byte. nat_lt 1 byte) map.now }
 {
-    let mut m = 0;
-    while m < map.len() {
-        if 1 < map[m] {
-            return m;
-        }
-        m += 1;
-    }
-    m
+    map.iter().position(|byte| *byte > 1)
 }
 
 // Whether a byte says that its macroblock is present: sums and count both go by it.
@@ -24,22 +16,10 @@ pub(crate) fn is_present(byte: u8) -> bool
     byte == 1
 }
 
-// What a byte adds to the count.
-fn counted(byte: u8) -> u64
-    ensures { (result ≡ cond (eqb byte 1) 1 0) × (result ≤ 1) }
-{
-    if is_present(byte) { 1 } else { 0 }
-}
-
 // How many macroblocks are present.
+#[tactic(auto, using(crate::proofs::Present::present_counted))]
 pub(crate) fn present(map: &[u8]) -> u64
     ensures { result ≡ present_count (length map.now) map.now }
 {
-    let mut count = 0;
-    let mut m = 0;
-    while m < map.len() {
-        count += counted(map[m]);
-        m += 1;
-    }
-    count
+    map.iter().filter(|byte| is_present(**byte)).count() as u64
 }

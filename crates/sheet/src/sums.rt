@@ -1,11 +1,9 @@
 // Whole-number sums over the samples of the macroblocks that are present.
 ghost use Rattle.std.specs.Prelude.{cond, ◌≡◌, ◌+◌, ◌*◌, ◌<◌, ◌≤◌, eqb, length};
 ghost use Rattle.picture.specs.Order.{Sound, Among};
-ghost use Rattle.picture.specs.Plane.{layout_of};
 ghost use Rattle.sheet.specs.Code.{
   of_sums,
   of_totals,
-  no_four,
   add_four,
   OfAtMost,
   SumsOver,
@@ -18,10 +16,11 @@ ghost use Rattle.sheet.specs.Code.{
 };
 
 use crate::map::is_present;
+use picture::Layout;
 use whole::inner::gap;
 
 // Sums over some samples: of absolute and squared errors, of rebuilt and of original samples. Those of a macroblock fit 32 bits.
-#[derive(Clone, Copy)]
+#[derive(Clone, Copy, Default)]
 struct Sums {
     absolute: u32,
     squared: u32,
@@ -29,8 +28,8 @@ struct Sums {
     original: u32,
 }
 
-// Those of a picture fit 64.
-#[derive(Clone, Copy)]
+// Those of a picture fit 64. Two types, since with 64 bits throughout the largest picture took 4.8 ms in place of 1.8 (docs/DECISIONS.md, 67).
+#[derive(Clone, Copy, Default)]
 pub(crate) struct Totals {
     pub(crate) absolute: u64,
     pub(crate) squared: u64,
@@ -38,54 +37,38 @@ pub(crate) struct Totals {
     pub(crate) original: u64,
 }
 
-fn none() -> Sums
-    ensures { of_sums result ≡ no_four }
-{
-    Sums {
-        absolute: 0,
-        squared: 0,
-        rebuilt: 0,
-        original: 0,
+// A method of each, and no `+=`: .ci/stamp takes a trait's method for a public function, and wants a line and a theorem of its own for it.
+impl Sums {
+    fn add(&mut self, other: Sums)
+        requires { (OfAtMost 256 (of_sums self.old)) × (OfAtMost 256 (of_sums other)) }
+        ensures { of_sums self.new ≡ add_four (of_sums self.old) (of_sums other) }
+    {
+        self.absolute += other.absolute;
+        self.squared += other.squared;
+        self.rebuilt += other.rebuilt;
+        self.original += other.original;
     }
 }
 
-fn add_sums(a: Sums, b: Sums) -> Sums
-    requires { (OfAtMost 256 (of_sums a)) × (OfAtMost 256 (of_sums b)) }
-    ensures { of_sums result ≡ add_four (of_sums a) (of_sums b) }
-{
-    Sums {
-        absolute: a.absolute + b.absolute,
-        squared: a.squared + b.squared,
-        rebuilt: a.rebuilt + b.rebuilt,
-        original: a.original + b.original,
+impl Totals {
+    fn add(&mut self, other: Sums)
+        requires { (OfAtMost 4194304 (of_totals self.old)) × (OfAtMost 256 (of_sums other)) }
+        ensures { of_totals self.new ≡ add_four (of_totals self.old) (of_sums other) }
+    {
+        self.absolute += u64::from(other.absolute);
+        self.squared += u64::from(other.squared);
+        self.rebuilt += u64::from(other.rebuilt);
+        self.original += u64::from(other.original);
     }
-}
-
-fn add_to_totals(a: Totals, b: Sums) -> Totals
-    requires { (OfAtMost 4194304 (of_totals a)) × (OfAtMost 256 (of_sums b)) }
-    ensures { of_totals result ≡ add_four (of_totals a) (of_sums b) }
-{
-    Totals {
-        absolute: a.absolute + b.absolute as u64,
-        squared: a.squared + b.squared as u64,
-        rebuilt: a.rebuilt + b.rebuilt as u64,
-        original: a.original + b.original as u64,
-    }
-}
-
-fn wide(a: u8) -> u32
-    ensures { (result ≡ a) × (result ≤ 255) }
-{
-    a as u32
 }
 
 fn squared(a: u8) -> u32
     ensures { (result ≡ a * a) × (result ≤ 65025) }
 {
-    wide(a) * wide(a)
+    u32::from(a) * u32::from(a)
 }
 
-// One sample.
+// One sample. By a place in two planes at once, as `SumsOver` sums them; x and y below are coordinates in them, and m is a macroblock's number.
 fn one(original: &[u8], rebuilt: &[u8], at: usize) -> Sums
     requires { (at < length original.now) × (at < length rebuilt.now) }
     ensures { SumsOver 1 (λ g. g at) original.now rebuilt.now (of_sums result) }
@@ -94,10 +77,10 @@ fn one(original: &[u8], rebuilt: &[u8], at: usize) -> Sums
     let back = rebuilt[at];
     let error = gap(own, back);
     Sums {
-        absolute: wide(error),
+        absolute: u32::from(error),
         squared: squared(error),
-        rebuilt: wide(back),
-        original: wide(own),
+        rebuilt: u32::from(back),
+        original: u32::from(own),
     }
 }
 
@@ -106,9 +89,9 @@ fn row(original: &[u8], rebuilt: &[u8], at: usize) -> Sums
     requires { (at + 16 ≤ length original.now) × (at + 16 ≤ length rebuilt.now) }
     ensures { SumsOver 16 (row_total 16 at) original.now rebuilt.now (of_sums result) }
 {
-    let mut sums = none();
+    let mut sums = Sums::default();
     for x in 0..16 {
-        sums = add_sums(sums, one(original, rebuilt, at + x));
+        sums.add(one(original, rebuilt, at + x));
     }
     sums
 }
@@ -118,50 +101,37 @@ fn macroblock(original: &[u8], rebuilt: &[u8], at: usize, stride: usize) -> Sums
     requires { (stride ≤ 2048) × (Lies at stride original.now rebuilt.now) }
     ensures { SumsOver 256 (square_total 16 stride at) original.now rebuilt.now (of_sums result) }
 {
-    let mut sums = none();
+    let mut sums = Sums::default();
     for y in 0..16 {
-        sums = add_sums(sums, row(original, rebuilt, at + y * stride));
+        sums.add(row(original, rebuilt, at + y * stride));
     }
     sums
 }
 
 // Macroblock m with its byte of the map: an absent one is left out.
-fn part(width: usize, height: usize, m: usize, byte: u8, original: &[u8], rebuilt: &[u8]) -> Sums
-    requires { (Among (layout_of width height) m 0) × (Planes (layout_of width height) original.now rebuilt.now) }
-    ensures { SumsOver 256 (λ g. cond (eqb byte 1) (macroblock_total (layout_of width height) m g) 0) original.now rebuilt.now (of_sums result) }
+fn part(layout: Layout, m: usize, byte: u8, original: &[u8], rebuilt: &[u8]) -> Sums
+    requires { (Among layout m 0) × (Planes layout original.now rebuilt.now) }
+    ensures { SumsOver 256 (λ g. cond (eqb byte 1) (macroblock_total layout m g) 0) original.now rebuilt.now (of_sums result) }
 {
     if !is_present(byte) {
-        return none();
+        return Sums::default();
     }
-    let layout = picture::inner::one_slice(width, height);
     macroblock(
         original,
         rebuilt,
         picture::inner::first_place(layout, m, 0),
-        16 * width,
+        16 * layout.width,
     )
 }
 
 // The picture.
-pub(crate) fn over_picture(
-    width: usize,
-    height: usize,
-    original: &[u8],
-    rebuilt: &[u8],
-    map: &[u8],
-) -> Totals
-    requires { (Sound (layout_of width height)) × (Planes (layout_of width height) original.now rebuilt.now) × (length map.now ≡ width * height) }
-    ensures { SumsOver 4194304 (present_total (layout_of width height) map.now) original.now rebuilt.now (of_totals result) }
+pub(crate) fn over_picture(layout: Layout, original: &[u8], rebuilt: &[u8], map: &[u8]) -> Totals
+    requires { (Sound layout) × (Planes layout original.now rebuilt.now) × (length map.now ≡ layout.width * layout.height) }
+    ensures { SumsOver 4194304 (present_total layout map.now) original.now rebuilt.now (of_totals result) }
 {
-    let mut totals = Totals {
-        absolute: 0,
-        squared: 0,
-        rebuilt: 0,
-        original: 0,
-    };
-    let count = width * height;
-    for m in 0..count {
-        totals = add_to_totals(totals, part(width, height, m, map[m], original, rebuilt));
+    let mut totals = Totals::default();
+    for (m, byte) in map.iter().enumerate() {
+        totals.add(part(layout, m, *byte, original, rebuilt));
     }
     totals
 }

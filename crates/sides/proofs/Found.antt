@@ -1,17 +1,16 @@
 -- The search over the four modes.
 --     cost_is                     what is tried costs what the prediction costs; over n
---     looked_at, looked_past      one mode is looked at, or is not permitted
+--     looked_past                 one mode is not permitted
 --     found_permitted, found      what the search leaves, and the choice of its mode's samples
 --     same_best, same_picks       a choice has one outcome
 -- Assumes nothing.
-use mathlib.Core.Path.{◌≡◌, refl, sym, ap, subst, ◌∙◌}
+use mathlib.Core.Path.{◌≡◌, refl, sym, ap, ◌∙◌}
 use mathlib.Core.Bool.{Bool, true, false, cond}
 use mathlib.Core.List.{List}
-use Prim.Native.Nat.{ℕ, ◌*◌, ◌<◌, ◌≤◌}
-use native.Mathlib.Omega.{arith}
+use Prim.Native.Nat.{ℕ, ◌*◌}
 use lib.ListN.{length}
 use Rattle.choice.specs.declared.inner.Standing.{Standing}
-use Rattle.choice.specs.Choice.{Cost, is, at, sad}
+use Rattle.choice.specs.Choice.{is, at, sad}
 use Rattle.choice.specs.Code.{standing, looked, Small}
 use Rattle.intra4.specs.Samples.{Round}
 use Rattle.intra4.specs.Rules.{Predicted, samples, none, samples_of}
@@ -20,7 +19,7 @@ use Rattle.intra4.proofs.Masked.{samples_by}
 use Rattle.sides.specs.Samples.{mask}
 use Rattle.sides.specs.Rules.{predicted, permitted}
 use Rattle.sides.specs.Choice.{costs_of, chosen, Picks}
-use Rattle.sides.proofs.Masked.{predicted_is, none_exactly_if}
+use Rattle.sides.proofs.Masked.{none_exactly_if}
 use Rattle.sides.proofs.Least.{chosen_mode}
 
 -- ---- one mode
@@ -33,15 +32,6 @@ cost_is n block c l {p} {t} e h k long s =
     ∙ sym (ap (cost_of n block) e ∙ rw h)
 
 module _ (l : List ℕ) (f m : ℕ) (block : List ℕ) (b : Standing) where
-  -- t is what the mode has filled, d its SAD
-  pub looked_at : {t : List ℕ} {d : ℕ} {r : Standing} → permitted f m ≡ true → t ≡ samples_of (predicted (mask 16 l f) m) → length t ≡ 256
-      → d ≡ sad (length t) t block → d ≤ 255 * length t
-      → r ≡ looked m (is d) b → (r ≡ looked m (costs_of (mask 16 l f) block m) b) × Small (costs_of (mask 16 l f) block m)
-  looked_at {t} {d} p e long s low h =
-      let w : d < 4294967295 = omega arith in
-      let c : is d ≡ costs_of (mask 16 l f) block m = cost_is 16 block (permitted f m) _ (predicted_is l f m) p e long s in
-      (h ∙ ap (λ (x : Cost). looked m x b) c, subst Small c w)
-
   pub looked_past : permitted f m ≡ false → (b ≡ looked m (costs_of (mask 16 l f) block m) b) × Small (costs_of (mask 16 l f) block m)
   looked_past p = let e : predicted (mask 16 l f) m ≡ none = (none_exactly_if l f m).1 p in rw e (refl, tt)
 

@@ -5,14 +5,16 @@
 --     plane_filled     a plane by the corner as the code reads it; over n
 --     vertical_is, horizontal_is, dc_is, plane_is     the same for what the code has filled, mode by mode
 -- Assumes nothing.
-use mathlib.Core.Path.{◌≡◌, refl, ap, ◌∙◌}
+use mathlib.Core.Path.{◌≡◌, refl, sym, ap, ◌∙◌}
 use mathlib.Core.Bool.{Bool, true, false, cond}
 use mathlib.Core.List.{List, [], ◌∷◌}
 use mathlib.Core.Logic.{◌↔◌}
 use Prim.Native.Nat.{ℕ, zero, suc, ◌<◌, ◌≤◌}
 use native.Mathlib.Omega.{arith}
-use lib.ListN.{length, get_or}
+use lib.ListN.{length, get_or, replicate}
+use Rattle.std.proofs.lemmas.List.{length-replicate, get_or-replicate}
 use Rattle.lists.specs.Tab.{tab, grid}
+use Rattle.lists.proofs.Tab.{tab_of}
 use Rattle.intra4.specs.Samples.{bit_of, side_if, corner_of, masked}
 use Rattle.intra4.specs.Rules.{samples, none, samples_of, row_of, mean, vertical, horizontal}
 use Rattle.intra4.proofs.Masked.{one_is, three_is, none_by, samples_by}
@@ -47,6 +49,9 @@ corner_is : (l : List ℕ) → 1 ≤ length l → get_or l 0 0 ∷ [] ≡ corner
 corner_is [] h = absurd (omega arith)
 corner_is (a ∷ l) h = refl
 
+replicated : (n v : ℕ) → replicate n v ≡ tab n (λ k. v)
+replicated n v = sym (tab_of n (λ k. v) (replicate n v) v (length-replicate n v) (λ k h. sym (get_or-replicate n k v v h)))
+
 -- k is n, of which the code knows no literal
 pub plane_filled : {n k : ℕ} (l : List ℕ) {out : List ℕ} → 1 ≤ length l → k ≡ n
     → out ≡ grid k (plane k (row_of (get_or l 0 0 ∷ []) (above_of n l)) (row_of (get_or l 0 0 ∷ []) (left_of n l)))
@@ -66,11 +71,11 @@ module _ (l : List ℕ) (f m : ℕ) (p : permitted f m ≡ true) {out : List ℕ
   horizontal_is k h = is (rw k h)
 
   pub dc_is : {first second : Bool} {v : ℕ} → m ≡ 2 → first ≡ bit_of f 0 → second ≡ bit_of f 1 → v ≡ mean 16 (side_if first (above_of 16 l)) (side_if second (left_of 16 l))
-      → out ≡ tab 256 (λ k. v) → out ≡ samples_of (predicted (mask 16 l f) m)
+      → out ≡ replicate 256 v → out ≡ samples_of (predicted (mask 16 l f) m)
   unfolding filled grid
-  dc_is k a b e h =
+  dc_is {v = v} k a b e h =
       is (rw k
-      (h ∙ ap (λ (v : ℕ). tab 256 (λ j. v)) e ∙ (λ i. tab 256 (λ j. mean 16 (side_if (a i) (above_of 16 l)) (side_if (b i) (left_of 16 l))))))
+      (h ∙ replicated 256 v ∙ ap (λ (v : ℕ). tab 256 (λ j. v)) e ∙ (λ i. tab 256 (λ j. mean 16 (side_if (a i) (above_of 16 l)) (side_if (b i) (left_of 16 l))))))
 
   pub plane_is : {n : ℕ} → m ≡ 3 → 1 ≤ length l → n ≡ 16
       → out ≡ grid n (plane n (row_of (get_or l 0 0 ∷ []) (above_of 16 l)) (row_of (get_or l 0 0 ∷ []) (left_of 16 l))) → out ≡ samples_of (predicted (mask 16 l f) m)

@@ -17,21 +17,7 @@ pub(crate) fn row_of(side: &[u8]) -> [u8; 16]
     own
 }
 
-// The column x, or else the row y.
-pub(crate) fn one_of(column: bool, x: usize, y: usize) -> usize
-    ensures { result ≡ cond column x y }
-{
-    if column { x } else { y }
-}
-
-pub(crate) fn put_mean(mean: u8, out: &mut [u8])
-    ensures { out.new ≡ tab (length out.old) (λ k. mean) }
-{
-    for k in 0..out.len() {
-        out[k] = mean;
-    }
-}
-
+// Not one loop with `put_side`: what a row has is taken once, before its columns, and a rule of x and y would take it for each sample.
 pub(crate) fn put_slanted(n: usize, a: i32, b: i32, c: i32, out: &mut [u8])
     requires { (2 ≤ n) × (n ≤ 16) × (Within 8160 a) × (Within 600000 b) × (Within 600000 c) × (length out.old ≡ n * n) }
     ensures { out.new ≡ grid n (standard.slanted n a b c) }

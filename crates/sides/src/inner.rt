@@ -1,4 +1,5 @@
-// What the crates above call, without tests.
+// What the crates above call, without tests. Modes and flags are numbers, as the call from C, the record and the paper have them: `permitted` is
+// public and answers for every number, `fill` for each that is permitted.
 ghost use Rattle.std.specs.Prelude.{◌≡◌, true, cond, [], ◌∷◌, ◌*◌, ◌<◌, ◌≤◌, length};
 ghost use Rattle.lists.specs.Tab.{grid};
 ghost use Rattle.intra4.specs.Samples.{side_if};
@@ -15,7 +16,10 @@ use intra4::inner::{all, flag};
 
 // ---- over n: 16 for Intra 16x16, 8 for chroma
 
-// Vertical prediction from what is above (`above` true), or horizontal from what is at the left, of n by n samples.
+// Vertical prediction from what is above (`above` true), or horizontal from what is at the left, of n by n samples. The loop over rows and columns
+// stands here, in `put_slanted`, in `chroma::quarters` and in `intra4::fills`: one that these crates share would be a public function over any rule,
+// and .ci/stamp wants of each public function a uniqueness theorem, which such a one has not.
+// n stands beside the sides of that length, as the theorems of `put_side`, `put_plane` and `mean` have it, and `above` as that of `put_side` has it.
 pub fn put_side(n: usize, side: &[u8], above: bool, out: &mut [u8])
     requires { (n ≤ 16) × (length side.now ≡ n) × (length out.old ≡ n * n) }
     ensures { out.new ≡ grid n (cond above paper.vertical paper.horizontal (paper.row_of [] side.now)) }
@@ -23,7 +27,7 @@ pub fn put_side(n: usize, side: &[u8], above: bool, out: &mut [u8])
     let own = fills::row_of(side);
     for y in 0..n {
         for x in 0..n {
-            out[n * y + x] = own[fills::one_of(above, x, y)];
+            out[n * y + x] = own[if above { x } else { y }];
         }
     }
 }
@@ -39,29 +43,25 @@ pub fn put_plane(n: usize, above: &[u8], left: &[u8], corner: u8, out: &mut [u8]
     fills::put_slanted(n, a, b, c, out);
 }
 
-// The mean of the sides that are there: the first if `first` says so, the second if `second` does.
+// The mean of the sides that are there: the first if `first` says so, the second if `second` does. Flags and no `Option`s, since the function is public
+// and its clause takes a missing side's bytes too.
 pub fn mean(n: u16, above: &[u8], left: &[u8], first: bool, second: bool) -> u8
     requires { (0 < n) × (n ≤ 16) × (length above.now ≡ n) × (length left.now ≡ n) }
     ensures { result ≡ paper.mean n (side_if first above.now) (side_if second left.now) }
 {
-    if first {
-        if second {
-            ((rules::sum_of(n, above) + rules::sum_of(n, left) + n) / (2 * n)) as u8
-        } else {
-            ((rules::sum_of(n, above) + n / 2) / n) as u8
-        }
-    } else {
-        if second {
-            ((rules::sum_of(n, left) + n / 2) / n) as u8
-        } else {
-            128
-        }
+    match (first, second) {
+        (true, true) => ((rules::sum_of(above) + rules::sum_of(left) + n) / (2 * n)) as u8,
+        (true, false) => ((rules::sum_of(above) + n / 2) / n) as u8,
+        (false, true) => ((rules::sum_of(left) + n / 2) / n) as u8,
+        (false, false) => 128,
     }
 }
 
 // ---- Intra 16x16: lent are the corner, the sixteen samples above, the sixteen at the left
 
-// What the mode needs is present. A number above 3 is no mode.
+// What the mode needs is present. A number above 3 is no mode. Chroma has `permitted` and `fill` of its own: a `match` each over another table of the
+// standard, which has the numbers of DC and of vertical the other way round.
+#[tactic(auto, unfolding(crate::specs::Rules::permitted))]
 pub fn permitted(flags: u8, mode: u8) -> bool
     ensures { result ≡ standard.permitted flags mode }
 {
@@ -85,7 +85,7 @@ pub fn fill(neighbours: &[u8], flags: u8, mode: u8, out: &mut [u8])
     match mode {
         0 => put_side(16, above, true, out),
         1 => put_side(16, left, false, out),
-        2 => fills::put_mean(mean(16, above, left, flag(flags, 0), flag(flags, 1)), out),
+        2 => out.fill(mean(16, above, left, flag(flags, 0), flag(flags, 1))),
         _ => put_plane(neighbours.len() / 2, above, left, neighbours[0], out),
     }
 }

@@ -1,4 +1,5 @@
-// What the modes take from the sides: slopes and means.
+// What the modes take from the sides: slopes and means. n stands beside a side of that length, as `rising` and `falling` of specs/Code have it; `gain`, `rise`,
+// `rises`, `row_start` and `fills::put_slanted` have n and no side.
 ghost use Rattle.std.specs.Prelude.{◌≡◌, [], ◌∷◌, ◌+◌, ◌*◌, ◌<◌, ◌≤◌, pos, ◌+ℤ◌, ◌*ℤ◌, length, get_or};
 ghost use Rattle.lists.specs.Tab.{tab};
 ghost use Rattle.lists.specs.Total.{total};
@@ -12,9 +13,10 @@ fn weighted(weight: usize, sample: u8) -> u32
     requires { weight ≤ 8 }
     ensures { (result ≡ weight * sample) × (result ≤ 2040) }
 {
-    (weight as u32) * (sample as u32)
+    (weight as u32) * u32::from(sample)
 }
 
+// In the standard's sums i is a weight and two places, so these loops count it.
 fn rising(n: usize, side: &[u8]) -> u32
     requires { (2 ≤ n) × (n ≤ 16) × (length side.now ≡ n) }
     ensures { (result ≡ rising n side.now) × (result ≤ 16320) }
@@ -65,7 +67,7 @@ pub(crate) fn tilt(n: usize, corner: u8, side: &[u8]) -> i32
 pub(crate) fn start(above: u8, left: u8) -> i32
     ensures { (result ≡ pos 16 *ℤ (pos left +ℤ pos above)) × Within 8160 result }
 {
-    16 * (left as i32 + above as i32)
+    16 * (i32::from(left) + i32::from(above))
 }
 
 // How far a plane rises from the middle to place k.
@@ -81,11 +83,7 @@ pub(crate) fn rises(n: usize, b: i32) -> [i32; 16]
     requires { (2 ≤ n) × (n ≤ 16) × (Within 600000 b) }
     ensures { (result ≡ tab 16 (rise_of n b)) × Each 20000000 result }
 {
-    let mut rises = [0i32; 16];
-    for x in 0usize..16 {
-        rises[x] = rise(n, b, x);
-    }
-    rises
+    std::array::from_fn(|x| rise(n, b, x))
 }
 
 // What a plane's row y has before its columns rise.
@@ -103,20 +101,13 @@ pub(crate) fn shown(row: i32, rise: i32) -> u8
     whole::inner::clip((row + rise) >> 5, 255)
 }
 
-// A byte as a number that sums may grow on.
-fn wide(b: u8) -> u16
-    ensures { (result ≡ b) × (result ≤ 255) }
-{
-    b as u16
-}
-
-pub(crate) fn sum_of(n: u16, side: &[u8]) -> u16
-    requires { (n ≤ 16) × (length side.now ≡ n) }
-    ensures { (result ≡ total n (λ k. get_or side.now k 0)) × (result ≤ 255 * n) }
+pub(crate) fn sum_of(side: &[u8]) -> u16
+    requires { length side.now ≤ 16 }
+    ensures { (result ≡ total (length side.now) (λ k. get_or side.now k 0)) × (result ≤ 255 * length side.now) }
 {
     let mut sum: u16 = 0;
-    for k in 0..n {
-        sum += wide(side[k as usize]);
+    for sample in side {
+        sum += u16::from(*sample);
     }
     sum
 }

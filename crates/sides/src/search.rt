@@ -21,13 +21,14 @@ fn consider(
 {
     if permitted(flags, mode) {
         fill(neighbours, flags, mode, trial);
-        choice::inner::look(mode, choice::inner::sad(trial, samples) as u32, best)
+        choice::inner::look(mode, u32::from(choice::inner::sad(trial, samples)), best)
     } else {
         best
     }
 }
 
-// The best of the four modes.
+// The best of the four modes. A loop, and not a fold as in `intra4::search`: a fold of `consider` was proved, and a choice
+// took 18 per cent more (238 ns, not 201).
 pub(crate) fn best(neighbours: &[u8], flags: u8, samples: &[u8], trial: &mut [u8]) -> Standing
     requires { (length neighbours.now ≡ 33) × (length samples.now ≡ 256) × (length trial.old ≡ 256) }
     ensures { result ≡ standing (chosen (mask 16 neighbours.now flags) samples.now) }

@@ -15,13 +15,11 @@ use lib.ListN.{length}
 use Rattle.lists.specs.Chain.{Test, Verdict, pass, chain, AllPass}
 use Rattle.lists.proofs.Chain.{chain_exactly_if, written_passed, holds_new}
 use Rattle.refusal.specs.declared.Refusal.{Refusal}
-use Rattle.refusal.specs.declared.Answer.TheVariants.{Done}
 use Rattle.refusal.proofs.Same.{says, says_same}
 use Rattle.intra4.specs.Choice.{Best, at, chosen}
 use Rattle.intra4.specs.Entry.{predict_tests, best_samples}
 use Rattle.intra4.specs.Rules.{samples_of, predicted, permitted}
 use Rattle.intra4.specs.Samples.{mask}
-use Rattle.intra4.specs.declared.Chosen.TheVariants.{Mode}
 use Rattle.intra4.proofs.Bytes.{chosen_mode}
 use Rattle.intra4.proofs.Least.{chosen_least}
 use Rattle.residual.specs.Entry.{Rebuilds}
@@ -47,12 +45,13 @@ use Rattle.stamp.specs.Demand2.{Claim2, Demand2}
 use Rattle.stamp.proofs.Gives.{fb_gives}
 use Rattle.stamp.proofs.Laws.{valued, sent_made}
 use Rattle.stamp.proofs.Sent.{sent_plane, sent_picture}
+use Rattle.std.specs.Prelude.{Ok}
 
 -- ---- planes
 
 pub fb_plane_agrees : Demand2 paper.fb_plane_agrees
 fb_plane_agrees c d done file room =
-    let agreed : Decodes (written_file (word c) (after c).file) (before d) Done (after c).rebuilt =
+    let agreed : Decodes (written_file (word c) (after c).file) (before d) (Ok tt) (after c).rebuilt =
     (coder_decoder_agree _ _ _ _ _ _ _ _ _ _ c.call.learnt.bytes (sent_plane c done) (before d) room).0 in
     let q : DecodePlaneSends (written_file (word c) (after c).file) (before d) (word d) (after d) =
     coe 0 1 (i. DecodePlaneSends (file i) (before d) (word d) (after d)) d.call.learnt in
@@ -137,12 +136,12 @@ fb_block_agrees c done p r e proom e' rroom =
     let m = mode_told (word c) in
     let t = block_tells c done in
     let s = c.call.learnt in
-    let codes : Codes (given c).qp f n (given c).samples (before c).levels (before c).rebuilt (Mode m (sad_told (word c))) (after c).levels (after c).rebuilt =
+    let codes : Codes (given c).qp f n (given c).samples (before c).levels (before c).rebuilt (Ok (record { mode = m; sad = sad_told (word c) })) (after c).levels (after c).rebuilt =
     record { says = says (sym t.passed); best = written_passed _ t.passed (sym t.best); levels = s.levels; rebuilt = s.rebuilt } in
     let x = predicts p n f m e proom t.all.0 t.all.1.1.1.1.0 t.allowed in
     let b : RebuildSends (given c).qp (samples_of (predicted (mask n f) m)) (after c).levels (before r) (word r) (after r) =
     coe 0 1 (i. RebuildSends (e' i).qp (((λ j. (e' j).prediction) ∙ x.1) i) (e' i).levels (before r) (word r) (after r)) r.call.learnt in
-    let again : Rebuilds (given c).qp (samples_of (predicted (mask n f) m)) (after c).levels (before r) Done (after c).rebuilt =
+    let again : Rebuilds (given c).qp (samples_of (predicted (mask n f) m)) (after c).levels (before r) (Ok tt) (after c).rebuilt =
     rebuilds _ _ _ _ _ _ _ _ _ _ codes s.bytes.0 s.bytes.1 (before r) rroom in (
       x.0,
       b.word ∙ ap (λ (u : Verdict Refusal). word_of u 0) (sym (says_same again.says)),
@@ -152,7 +151,7 @@ fb_block_agrees c done p r e proom e' rroom =
 -- ---- what the coders wrote, inspected
 
 -- with a plane that the decoder leaves of the file
-with_decoded : (c : CallOf fb_inspect) {file theirs : List ℕ} (out : List ℕ) → given c ≡ record { file = file; theirs = theirs } → Decodes file out Done theirs → word c ≡ 0
+with_decoded : (c : CallOf fb_inspect) {file theirs : List ℕ} (out : List ℕ) → given c ≡ record { file = file; theirs = theirs } → Decodes file out (Ok tt) theirs → word c ≡ 0
 with_decoded c {file} {theirs} out e d =
     let q : InspectSends file theirs (word c) = coe 0 1 (i. InspectSends (e i).file (e i).theirs (word c)) c.call.learnt in
     q ∙ ap (λ (v : Verdict Refusal). word_of v 0) (decoded_passes file out theirs d)

@@ -9,6 +9,7 @@ use mathlib.Core.Bool.{Bool, true, false, cond}
 use mathlib.Core.List.{List}
 use Prim.Native.Nat.{ℕ, suc, ◌+◌, ◌*◌, ◌-◌, ◌<◌, ◌≤◌}
 use native.Mathlib.Omega.{arith}
+use borrow.Author.Differences.{true_is_le}
 use borrow.Author.Tests.{le-leb, ltb-true, ltb-false}
 use lib.Dec.{T, leb, ltb}
 use lib.IntN.{ℤ, pos, negsuc}
@@ -22,7 +23,6 @@ use Rattle.lists.proofs.Every.{holds, every_at}
 use Rattle.lists.proofs.Tab.{length_tab, get_d_tab}
 use Rattle.whole.specs.Notation.{minus}
 use Rattle.whole.specs.Range.{inside}
-use Rattle.whole.proofs.Order.{le_le_z}
 use Rattle.whole.proofs.Range.{all_inside}
 use Rattle.intra4.specs.Samples.{bit_of, AgreeWherePresent}
 use Rattle.residual.specs.Entry.{first_wide}
@@ -98,10 +98,10 @@ bits_inside n = by (ltb n 32768) refl
     by : (t : Bool) → ltb n 32768 ≡ t → inside (minus 32768) (pos 32767) (sel t (pos n) (negsuc (65536 - suc n))) ≡ true
     by true e =
         let h = ltb-true n 32768 e in
-        both_ends (pos n) (le_le_z (minus 32768) (pos n) (omega arith)) (le_le_z (pos n) (pos 32767) (omega arith))
+        both_ends (pos n) (sym (true_is_le (minus 32768) (pos n) (omega arith))) (sym (true_is_le (pos n) (pos 32767) (omega arith)))
     by false e =
         let h = ltb-false n 32768 e in
-        both_ends (negsuc (65536 - suc n)) (le_le_z (minus 32768) (negsuc (65536 - suc n)) (omega arith)) (le_le_z (negsuc (65536 - suc n)) (pos 32767) (omega arith))
+        both_ends (negsuc (65536 - suc n)) (sym (true_is_le (minus 32768) (negsuc (65536 - suc n)) (omega arith))) (sym (true_is_le (negsuc (65536 - suc n)) (pos 32767) (omega arith)))
 
 levels_sixteen : (b : ℕ) (part : List ℕ) → length (levels_in b part) ≡ 16
 unfolding levels_in

@@ -1,12 +1,12 @@
 -- What the tests of `forward` come to.
---     short_residual, short_coefficients, outside_range, in_range     the four verdicts
---     small                                                           residuals in range are within 255
+--     outside_range, in_range     the verdicts behind the lengths
+--     small                       residuals in range are within 255
 -- Assumes nothing.
 use mathlib.Core.Path.{◌≡◌, refl}
 use mathlib.Core.List.{List, []}
 use Prim.Native.Nat.{◌≤◌, ◌<◌}
 use native.Mathlib.Omega.{arith}
-use borrow.Author.Tests.{eq-eqb, ne_eqb}
+use borrow.Author.Tests.{eq-eqb}
 use lib.IntN.{ℤ, pos, negsuc}
 use lib.ListN.{length}
 use Rattle.lists.specs.Chain.{chain, pass, stop}
@@ -17,13 +17,7 @@ use Rattle.refusal.specs.declared.Refusal.TheVariants as refusal
 use Rattle.transform.specs.Entry.{outside, forward_tests}
 
 module _ (x y : List ℤ) where
-  pub short_residual : (length x ≡ 16 → ⊥) → chain (forward_tests x y) ≡ stop refusal.Length
-  short_residual h = simp (ne_eqb (length x) 16 h)
-
   module _ (h : length x ≡ 16) where
-    pub short_coefficients : (length y ≡ 16 → ⊥) → chain (forward_tests x y) ≡ stop refusal.Length
-    short_coefficients k = simp (eq-eqb (length x) 16 h, ne_eqb (length y) 16 k)
-
     module _ (k : length y ≡ 16) where
       pub outside_range : outside x < 16 → chain (forward_tests x y) ≡ stop (refusal.Residual (outside x))
       outside_range l =

@@ -2,31 +2,28 @@
 --     inverse_line                              the inverse's code, reflected
 --     row_through, square_through              code over ℤ whose normal form is a matrix's: the row through it, and all of the 2x2
 --     back_local, back_grows                   the inverse's sums look at four numbers, and are four times as large at the most
---     gathered                                 sixteen numbers, read one by one
---     rows_each                                bounds of a block's rows
---     rows_flat                                a block whose rows are f of a block's rows
+--     held_at, row_each                        what stands in the rows of a matrix, and how large it is
+--     EachRow, four_rows, stepped              rows that are f of a matrix's rows
 -- Assumes nothing.
-use mathlib.Core.Path.{◌≡◌, refl, sym, ap, ◌∙◌}
+use mathlib.Core.Path.{◌≡◌, ap, ◌∙◌}
 use mathlib.Core.List.{List, [], ◌∷◌}
 use Prim.Native.Nat.{ℕ, zero, suc, ◌+◌, ◌*◌, ◌<◌}
 use native.Mathlib.Omega.{arith}
 use lib.Dec.{T}
 use lib.IntN.{ℤ, pos}
-use lib.ListN.{length, get_or}
+use lib.ListN.{get_or}
 use mir.Syntax.{w32}
 use Rattle.lists.specs.Tab.{tab, grid}
-use Rattle.lists.proofs.Tab.{get_d_tab, tab_of}
-use Rattle.whole.specs.Bounds.{Each}
+use Rattle.lists.proofs.Tab.{get_d_tab}
+use Rattle.whole.specs.Bounds.{Within, Each}
 use Rattle.whole.proofs.Ring.{Expression, var, con, ◌⊕◌, ◌⊗◌, values, normals, rings}
 use Rattle.whole.proofs.Steps.{Code, inp, add, sub, shr, each_at}
-use Rattle.whole.proofs.Lists.{gather, each_gather, oks, mosts, sizes}
-use Rattle.transform.specs.Quads.{row, flat, line, by_row, through}
+use Rattle.whole.proofs.Lists.{oks, mosts, sizes, each_tab}
+use Rattle.transform.specs.Quads.{line, matrix, rows_of, through}
 use Rattle.transform.specs.Hadamard.{hadamard}
 use Rattle.transform.specs.Inverse.{butterfly, back}
-use Rattle.transform.specs.Matrix.{Line, Matrix, raster, each_row}
-use Rattle.transform.specs.declared.inner.Quads.{Quads}
-use Rattle.transform.specs.declared.inner.Quad.{Quad}
-use Rattle.transform.proofs.Squares.{Local, Grows, entries_of}
+use Rattle.transform.specs.Matrix.{Line, Matrix, each_row}
+use Rattle.transform.proofs.Squares.{Local, Grows}
 
 -- ---- the code of the inverse
 
@@ -57,10 +54,9 @@ through_expression M place = sum_expression 4 (λ k. con (M place k) ⊗ var k)
 abbrev pub through_expressions : Matrix → List Expression
 through_expressions M = through_expression M 0 ∷ through_expression M 1 ∷ through_expression M 2 ∷ through_expression M 3 ∷ []
 
-pub row_through : (M : Matrix) (code : List Expression) (a b c d : ℤ) → normals code ≡ normals (through_expressions M)
-    → values (a ∷ b ∷ c ∷ d ∷ []) code ≡ tab 4 (through 4 M (line (a ∷ b ∷ c ∷ d ∷ [])))
+pub row_through : (M : Matrix) (code : List Expression) (v : List ℤ) → normals code ≡ normals (through_expressions M) → values v code ≡ tab 4 (through 4 M (line v))
 unfolding tab
-row_through M code a b c d e = rings (a ∷ b ∷ c ∷ d ∷ []) code (through_expressions M) e
+row_through M code v e = rings v code (through_expressions M) e
 
 -- the entry of H W H in a row and a column, of two rows and two columns
 abbrev square_expression : Matrix → ℕ → ℕ → Expression
@@ -75,13 +71,6 @@ square_through H code w e = rings w code (square_expressions H) e
 
 -- ---- four numbers
 
-below_four : (P : ℕ → Type 0) → P 0 → P 1 → P 2 → P 3 → (k : ℕ) → k < 4 → P k
-below_four P a b c d zero h = a
-below_four P a b c d (suc zero) h = b
-below_four P a b c d (suc (suc zero)) h = c
-below_four P a b c d (suc (suc (suc zero))) h = d
-below_four P a b c d (suc (suc (suc (suc k)))) h = absurd (omega arith)
-
 pub back_local : Local 4 back
 back_local x y h i l =
     ap (λ (z : List ℤ). get_or z i (pos 0))
@@ -92,53 +81,35 @@ back_grows B M t u x h i l =
     each_at M (butterfly (x 0) (x 1) (x 2) (x 3))
     (sizes w32 B (x 0 ∷ x 1 ∷ x 2 ∷ x 3 ∷ []) (h 0 (omega arith), (h 1 (omega arith), (h 2 (omega arith), (h 3 (omega arith), tt)))) M inverse_line t u) i
 
--- ---- a block from its rows
+-- ---- four rows of four
 
-abbrev pub sixteen : List ℕ
-sixteen = 0 ∷ 1 ∷ 2 ∷ 3 ∷ 4 ∷ 5 ∷ 6 ∷ 7 ∷ 8 ∷ 9 ∷ 10 ∷ 11 ∷ 12 ∷ 13 ∷ 14 ∷ 15 ∷ []
+pub held_at : (A : Matrix) (i j : ℕ) → i < 4 → j < 4 → matrix (rows_of 4 A) i j ≡ A i j
+held_at A i j h l =
+    ap (λ (r : List ℤ). get_or r j (pos 0)) (get_d_tab 4 (λ row. tab 4 (A row)) i [] h) ∙ get_d_tab 4 (A i) j (pos 0) l
 
--- a list of sixteen is the list of its numbers
-pub gathered : (l : List ℤ) → length l ≡ 16 → gather sixteen l ≡ l
-unfolding tab
-gathered l e = tab_of 16 (line l) l (pos 0) e (λ k h. refl)
+-- the rows of r are f of those of m
+abbrev pub EachRow : (Line → Line) → List (List ℤ) → List (List ℤ) → Type 0
+EachRow f m r = (i : ℕ) → i < 4 → get_or r i [] ≡ tab 4 (f (line (get_or m i [])))
 
-pub rows_each : (B : ℕ) (m : Quads) → Each B (flat m) → Each B (row m.a) × Each B (row m.b) × Each B (row m.c) × Each B (row m.d)
-rows_each B m h = (
-  each_gather B (0 ∷ 1 ∷ 2 ∷ 3 ∷ []) (flat m) h,
-  each_gather B (4 ∷ 5 ∷ 6 ∷ 7 ∷ []) (flat m) h,
-  each_gather B (8 ∷ 9 ∷ 10 ∷ 11 ∷ []) (flat m) h,
-  each_gather B (12 ∷ 13 ∷ 14 ∷ 15 ∷ []) (flat m) h,
-)
+-- row by row
+pub four_rows : (f : Line → Line) (m r : List (List ℤ)) → get_or r 0 [] ≡ tab 4 (f (line (get_or m 0 []))) → get_or r 1 [] ≡ tab 4 (f (line (get_or m 1 [])))
+    → get_or r 2 [] ≡ tab 4 (f (line (get_or m 2 []))) → get_or r 3 [] ≡ tab 4 (f (line (get_or m 3 []))) → EachRow f m r
+four_rows f m r a b c d zero h = a
+four_rows f m r a b c d (suc zero) h = b
+four_rows f m r a b c d (suc (suc zero)) h = c
+four_rows f m r a b c d (suc (suc (suc zero))) h = d
+four_rows f m r a b c d (suc (suc (suc (suc k)))) h = absurd (omega arith)
 
--- v is row i of m
-abbrev Row : Quads → ℕ → Quad → Type 0
-Row m i v = (k : ℕ) → k < 4 → line (row v) k ≡ raster 4 (flat m) i k
+module _ (A : Matrix) {m : List (List ℤ)} (is : m ≡ rows_of 4 A) where
+  -- the bound of a row
+  pub row_each : (B : ℕ) → ((i j : ℕ) → i < 4 → j < 4 → Within B (A i j)) → (i : ℕ) → i < 4 → Each B (get_or m i [])
+  row_each B h i l =
+      let e : get_or m i [] ≡ tab 4 (A i) = ap (λ (rows : List (List ℤ)). get_or rows i []) is ∙ get_d_tab 4 (λ row. tab 4 (A row)) i [] l in
+      rw e (each_tab B 4 (A i) (λ j k. h i j l k))
 
-module _ (m : Quads) where
-  row_a : Row m 0 m.a
-  row_a = below_four (λ k. line (row m.a) k ≡ raster 4 (flat m) 0 k) refl refl refl refl
-
-  row_b : Row m 1 m.b
-  row_b = below_four (λ k. line (row m.b) k ≡ raster 4 (flat m) 1 k) refl refl refl refl
-
-  row_c : Row m 2 m.c
-  row_c = below_four (λ k. line (row m.c) k ≡ raster 4 (flat m) 2 k) refl refl refl refl
-
-  row_d : Row m 3 m.d
-  row_d = below_four (λ k. line (row m.d) k ≡ raster 4 (flat m) 3 k) refl refl refl refl
-
-module _ (f : Line → Line) (local : Local 4 f) (m r : Quads) where
-  row_at : (i : ℕ) {v u : Quad} → Row m i v → Row r i u → row u ≡ tab 4 (f (line (row v))) → (j : ℕ) → j < 4 → raster 4 (flat r) i j ≡ f (raster 4 (flat m) i) j
-  row_at i {v} {u} from there e j h =
-      sym (there j h) ∙ ap (λ (z : List ℤ). get_or z j (pos 0)) e ∙ get_d_tab 4 (f (line (row v))) j (pos 0) h ∙ local _ _ from j h
-
-  pub rows_flat : row r.a ≡ tab 4 (f (line (row m.a)))
-      → row r.b ≡ tab 4 (f (line (row m.b)))
-      → row r.c ≡ tab 4 (f (line (row m.c)))
-      → row r.d ≡ tab 4 (f (line (row m.d)))
-      → flat r ≡ by_row 4 f (flat m)
-  unfolding by_row
-  rows_flat a b c d =
-      sym (entries_of 4 (each_row f (raster 4 (flat m))) (flat r) refl (λ i j h l. sym (below_four
-      (λ i. (j : ℕ) → j < 4 → raster 4 (flat r) i j ≡ f (raster 4 (flat m) i) j)
-      (row_at 0 (row_a m) (row_a r) a) (row_at 1 (row_b m) (row_b r) b) (row_at 2 (row_c m) (row_c r) c) (row_at 3 (row_d m) (row_d r) d) i h j l)))
+  -- f of each row
+  pub stepped : (f : Line → Line) → Local 4 f → (r : List (List ℤ)) → EachRow f m r → (i j : ℕ) → i < 4 → j < 4 → matrix r i j ≡ each_row f A i j
+  stepped f local r rows i j h l =
+      ap (λ (row : List ℤ). get_or row j (pos 0)) (rows i h)
+      ∙ get_d_tab 4 (f (line (get_or m i []))) j (pos 0) l
+      ∙ local _ _ (λ k q. ap (λ (rows : List (List ℤ)). matrix rows i k) is ∙ held_at A i k h q) j l

@@ -25,6 +25,10 @@ abbrev pub reach : ℕ → Line → ℕ
 reach zero m = 0
 reach (suc n) m = reach n m + nat_abs (m n)
 
+-- that sum is at most `most` in each of n rows: the checker computes it
+abbrev pub Reaches : (n most : ℕ) → Matrix → Type 0
+Reaches n most M = T (every n (λ row. leb (reach n (M row)) most))
+
 pub sum_within : (n : ℕ) (m x : Line) (B : ℕ) → ((k : ℕ) → k < n → Within B (x k)) → Within (reach n m * B) (sum n (λ k. m k *ℤ x k))
 sum_within zero m x B h = record { size = zero-le }
 sum_within (suc n) m x B h =
@@ -36,10 +40,11 @@ module _ (n : ℕ) (M : Matrix) where
   pub through_local : Local n (through n M)
   through_local x y h i l = sum_ext n _ _ (λ k m. ap (λ (z : ℤ). M i k *ℤ z) (h k m))
 
-  pub through_grows : (B A : ℕ) → T (every n (λ i. leb (reach n (M i) * B) A)) → Grows n (through n M) B A
-  through_grows B A t x h i l =
+  pub through_grows : (most : ℕ) → Reaches n most M → (B : ℕ) → Grows n (through n M) B (most * B)
+  through_grows most t B x h i l =
       let s = sum_within n (M i) x B h in
-      let e = leb→le (reach n (M i) * B) A (every_at n (λ i. leb (reach n (M i) * B) A) t i l) in
+      let e = leb→le (reach n (M i)) most (every_at n (λ i. leb (reach n (M i)) most) t i l) in
+      let wider : reach n (M i) * B ≤ most * B = mul-le-mul e (le_refl B) in
       record { size = omega arith }
 
   pub around_within : (X : Matrix) (B : ℕ) → ((i j : ℕ) → i < n → j < n → Within B (X i j)) → (i j : ℕ)

@@ -6,11 +6,11 @@ use Rattle.whole.specs.Bounds.{Each}
 use Rattle.whole.specs.Notation.{minus}
 use Rattle.whole.specs.Range.{first_outside}
 use Rattle.refusal.specs.Number.{said, Says}
-use Rattle.refusal.specs.declared.Answer.{Answer}
 use Rattle.refusal.specs.declared.Refusal.{Refusal}
 use Rattle.refusal.specs.declared.Refusal.TheVariants as refusal
 use Rattle.refusal.specs.Tests.{length_test}
 use Rattle.transform.specs.Forward.{forward}
+use Rattle.std.specs.Prelude.{Result}
 
 -- "residual outside -255..255", "first index"
 abbrev pub outside : List ℤ → ℕ
@@ -22,7 +22,7 @@ forward_tests residual coefficients =
     length_test 16 (length residual) ∷ length_test 16 (length coefficients) ∷ scan_test 16 (outside residual) refusal.Residual ∷ []
 
 -- the coefficients of the residuals, or the refusal
-pub record Forwards (residual before : List ℤ) (r : Answer) (after : List ℤ) : Type 0 where
+pub record Forwards (residual before : List ℤ) (r : Result (Unit {0}) Refusal) (after : List ℤ) : Type 0 where
   pub says : Says (said r) (chain (forward_tests residual before))
   pub wrote : after ≡ written (chain (forward_tests residual before)) (forward residual) before
 

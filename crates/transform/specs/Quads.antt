@@ -1,19 +1,16 @@
 -- How the code holds sixteen numbers: four rows of four. Assumes nothing.
-use Rattle.std.specs.Prelude.{List, [], ◌∷◌, ℕ, ℤ, pos, ◌*ℤ◌, get_or}
-use Rattle.transform.specs.declared.inner.Quad.{Quad}
-use Rattle.transform.specs.declared.inner.Quads.{Quads}
+use Rattle.std.specs.Prelude.{List, [], ℕ, ℤ, pos, ◌*ℤ◌, get_or}
+use Rattle.lists.specs.Tab.{tab}
 use Rattle.whole.specs.Sum.{sum}
 use Rattle.transform.specs.Matrix.{Line, Matrix, each_row, raster, entries}
 
-abbrev pub row : Quad → List ℤ
-row v = v.p ∷ v.q ∷ v.r ∷ v.s ∷ []
+-- the matrix whose rows are held
+abbrev pub matrix : List (List ℤ) → Matrix
+matrix rows = λ row column. get_or (get_or rows row []) column (pos 0)
 
-abbrev pub flat : Quads → List ℤ
-flat m =
-    m.a.p ∷ m.a.q ∷ m.a.r ∷ m.a.s
-    ∷ m.b.p ∷ m.b.q ∷ m.b.r ∷ m.b.s
-    ∷ m.c.p ∷ m.c.q ∷ m.c.r ∷ m.c.s
-    ∷ m.d.p ∷ m.d.q ∷ m.d.r ∷ m.d.s ∷ []
+-- and the rows that hold a matrix of n rows and n columns
+abbrev pub rows_of : ℕ → Matrix → List (List ℤ)
+rows_of n A = tab n (λ row. tab n (A row))
 
 -- the number at each place of a list
 abbrev pub line : List ℤ → Line

@@ -1,141 +1,86 @@
 // The transforms of whole blocks, by value. Forward and Hadamard hold sixteen numbers as four rows of four; the inverse writes over one array.
-ghost use Rattle.std.specs.Prelude.{◌≡◌, ℕ, ◌+◌, ◌*◌, ◌<◌, pos, length, get_or};
+ghost use Rattle.std.specs.Prelude.{◌≡◌, ℕ, ◌+◌, ◌*◌, ◌<◌, [], pos, length, get_or};
 ghost use Rattle.lists.specs.Stores.{stores};
-ghost use Rattle.lists.specs.Tab.{tab, turned};
+ghost use Rattle.lists.specs.Tab.{tab};
 ghost use Rattle.whole.specs.Bounds.{Within, Each};
-ghost use Rattle.transform.specs.Quads.{row, flat, line, by_row, through, wide};
+ghost use Rattle.transform.specs.Matrix.{transposed, raster, entries};
+ghost use Rattle.transform.specs.Quads.{line, matrix, rows_of, through, wide};
 ghost use Rattle.transform.specs.Forward.{C, forward};
 ghost use Rattle.transform.specs.Hadamard.{H4, H2, hadamard};
 ghost use Rattle.transform.specs.Inverse.{back, inverse, rounded};
 
-#[derive(Clone, Copy)]
-struct Quad {
-    p: i32,
-    q: i32,
-    r: i32,
-    s: i32,
-}
+use std::array;
 
-#[derive(Clone, Copy)]
-struct Quads {
-    a: Quad,
-    b: Quad,
-    c: Quad,
-    d: Quad,
-}
-
-// Rows and columns exchanged.
-fn turned(m: Quads) -> Quads
-    requires { Each wide (flat m) }
-    ensures { flat result ≡ turned (pos 0) 4 (flat m) }
-{
-    Quads {
-        a: Quad {
-            p: m.a.p,
-            q: m.b.p,
-            r: m.c.p,
-            s: m.d.p,
-        },
-        b: Quad {
-            p: m.a.q,
-            q: m.b.q,
-            r: m.c.q,
-            s: m.d.q,
-        },
-        c: Quad {
-            p: m.a.r,
-            q: m.b.r,
-            r: m.c.r,
-            s: m.d.r,
-        },
-        d: Quad {
-            p: m.a.s,
-            q: m.b.s,
-            r: m.c.s,
-            s: m.d.s,
-        },
-    }
-}
-
-// Sixteen numbers as four rows.
-fn in_rows(x: [i32; 16]) -> Quads
-    requires { Each wide x }
-    ensures { flat result ≡ x }
-{
-    Quads {
-        a: Quad {
-            p: x[0],
-            q: x[1],
-            r: x[2],
-            s: x[3],
-        },
-        b: Quad {
-            p: x[4],
-            q: x[5],
-            r: x[6],
-            s: x[7],
-        },
-        c: Quad {
-            p: x[8],
-            q: x[9],
-            r: x[10],
-            s: x[11],
-        },
-        d: Quad {
-            p: x[12],
-            q: x[13],
-            r: x[14],
-            s: x[15],
-        },
-    }
-}
-
-// Four rows as sixteen numbers.
-fn in_raster(m: Quads) -> [i32; 16]
-    requires { Each wide (flat m) }
-    ensures { result ≡ flat m }
+// Sixteen numbers as four rows. Written out, as in `turned`: by `array::from_fn` the closure, which gives an array, wants clauses of its own.
+#[tactic(auto, unfolding(lists::specs::Tab::tab))]
+fn in_rows(x: [i32; 16]) -> [[i32; 4]; 4]
+    ensures { result ≡ rows_of 4 (raster 4 x) }
 {
     [
-        m.a.p, m.a.q, m.a.r, m.a.s, m.b.p, m.b.q, m.b.r, m.b.s, m.c.p, m.c.q, m.c.r, m.c.s, m.d.p, m
-            .d
-            .q, m.d.r, m.d.s,
+        [x[0], x[1], x[2], x[3]],
+        [x[4], x[5], x[6], x[7]],
+        [x[8], x[9], x[10], x[11]],
+        [x[12], x[13], x[14], x[15]],
     ]
 }
 
+// Four rows as sixteen numbers.
+fn in_raster(rows: [[i32; 4]; 4]) -> [i32; 16]
+    ensures { result ≡ entries 4 (matrix rows) }
+{
+    array::from_fn(|place| rows[place / 4][place % 4])
+}
+
+// Rows and columns exchanged.
+#[tactic(auto, unfolding(lists::specs::Tab::tab))]
+fn turned(rows: [[i32; 4]; 4]) -> [[i32; 4]; 4]
+    ensures { result ≡ rows_of 4 (transposed (matrix rows)) }
+{
+    let [a, b, c, d] = rows;
+    [
+        [a[0], b[0], c[0], d[0]],
+        [a[1], b[1], c[1], d[1]],
+        [a[2], b[2], c[2], d[2]],
+        [a[3], b[3], c[3], d[3]],
+    ]
+}
+
+// A step of each row. Four calls and no `map`, with which `forward` took 41 ns in place of 35 (361 instructions in place of 323).
+fn each_row<F: Fn([i32; 4]) -> [i32; 4]>(rows: [[i32; 4]; 4], step: F) -> [[i32; 4]; 4]
+    requires { (k : ℕ) → k < 4 → F.pre step (get_or rows k []) }
+    ensures { F.post step (get_or rows 0 []) (get_or result 0 []) × F.post step (get_or rows 1 []) (get_or result 1 []) × F.post step (get_or rows 2 []) (get_or result 2 []) × F.post step (get_or rows 3 []) (get_or result 3 []) }
+{
+    let [a, b, c, d] = rows;
+    [step(a), step(b), step(c), step(d)]
+}
+
 // One row of four through C.
-fn forward_row(v: Quad) -> Quad
-    requires { Each wide (row v) }
-    ensures { row result ≡ tab 4 (through 4 C (line (row v))) }
+fn forward_row(v: [i32; 4]) -> [i32; 4]
+    requires { Each wide v }
+    ensures { result ≡ tab 4 (through 4 C (line v)) }
 {
-    let e = v.p + v.s;
-    let f = v.q + v.r;
-    let g = v.q - v.r;
-    let h = v.p - v.s;
-    let p = e + f;
-    let q = h + h + g;
-    let r = e - f;
-    let s = h - g - g;
-    Quad { p, q, r, s }
+    let [p, q, r, s] = v;
+    let e = p + s;
+    let f = q + r;
+    let g = q - r;
+    let h = p - s;
+    [e + f, h + h + g, e - f, h - g - g]
 }
 
-// The same of each row.
-fn forward_rows(m: Quads) -> Quads
-    requires { Each wide (flat m) }
-    ensures { flat result ≡ by_row 4 (through 4 C) (flat m) }
+// One row of four through H.
+fn hadamard_row(v: [i32; 4]) -> [i32; 4]
+    requires { Each wide v }
+    ensures { result ≡ tab 4 (through 4 H4 (line v)) }
 {
-    let a = m.a;
-    let b = m.b;
-    let c = m.c;
-    let d = m.d;
-    Quads {
-        a: forward_row(a),
-        b: forward_row(b),
-        c: forward_row(c),
-        d: forward_row(d),
-    }
+    let [p, q, r, s] = v;
+    let e = p + q;
+    let f = r + s;
+    let g = p - q;
+    let h = r - s;
+    [e + f, e - f, g - h, g + h]
 }
 
-// Four numbers that stand a step apart through the inverse's sums, in their places.
+// Four numbers that stand a step apart through the inverse's sums, in their places: no slice holds a column.
 fn inverse_line(x: &mut [i32], at: usize, step: usize)
     requires { (length x.old ≡ 16) × (at + step * 3 < 16) × ((j : ℕ) → j < 4 → Within wide (get_or x.old (at + step * j) (pos 0))) }
     ensures { x.new ≡ stores 4 (λ j. at + step * j) (back (λ j. get_or x.old (at + step * j) (pos 0))) x.old }
@@ -157,48 +102,13 @@ fn inverse_line(x: &mut [i32], at: usize, step: usize)
     x[last] = e - m;
 }
 
-// One row of four through H.
-fn hadamard_row(v: Quad) -> Quad
-    requires { Each wide (row v) }
-    ensures { row result ≡ tab 4 (through 4 H4 (line (row v))) }
-{
-    let e = v.p + v.q;
-    let f = v.r + v.s;
-    let g = v.p - v.q;
-    let h = v.r - v.s;
-    let p = e + f;
-    let q = e - f;
-    let r = g - h;
-    let s = g + h;
-    Quad { p, q, r, s }
-}
-
-// The same of each row.
-fn hadamard_rows(m: Quads) -> Quads
-    requires { Each wide (flat m) }
-    ensures { flat result ≡ by_row 4 (through 4 H4) (flat m) }
-{
-    let a = m.a;
-    let b = m.b;
-    let c = m.c;
-    let d = m.d;
-    Quads {
-        a: hadamard_row(a),
-        b: hadamard_row(b),
-        c: hadamard_row(c),
-        d: hadamard_row(d),
-    }
-}
-
 // (value + 32) >> 6 of each number of a slice, in its place.
 fn round_all(x: &mut [i32])
     requires { Each wide x.old }
     ensures { x.new ≡ tab (length x.old) (λ place. rounded (line x.old place)) }
 {
-    let mut k = 0;
-    while k < x.len() {
-        x[k] = (x[k] + 32) >> 6;
-        k += 1;
+    for value in x.iter_mut() {
+        *value = (*value + 32) >> 6;
     }
 }
 
@@ -207,7 +117,8 @@ pub fn forward_block(x: [i32; 16]) -> [i32; 16]
     requires { Each 32768 x }
     ensures { result ≡ forward x }
 {
-    in_raster(turned(forward_rows(turned(forward_rows(in_rows(x))))))
+    let rows = each_row(in_rows(x), forward_row);
+    in_raster(turned(each_row(turned(rows), forward_row)))
 }
 
 // The residuals of sixteen rescaled coefficients.
@@ -227,11 +138,13 @@ pub fn inverse_block(d: [i32; 16]) -> [i32; 16]
 }
 
 // Sixteen luma DC values or levels through H.
+// What it shares with `forward_block` is `each_row`: these two lines are what is left.
 pub fn hadamard4(w: [i32; 16]) -> [i32; 16]
     requires { Each 32768 w }
     ensures { result ≡ hadamard 4 H4 w }
 {
-    in_raster(turned(hadamard_rows(turned(hadamard_rows(in_rows(w))))))
+    let rows = each_row(in_rows(w), hadamard_row);
+    in_raster(turned(each_row(turned(rows), hadamard_row)))
 }
 
 // Four chroma DC values or levels through the 2x2 H.

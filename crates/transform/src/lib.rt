@@ -5,27 +5,25 @@
 
 ghost use Rattle.transform.specs.Entry.{Forwards};
 
-use refusal::{Answer, Refusal};
+use refusal::Refusal;
 
 pub mod inner;
 
 // The coefficients of sixteen residuals, each within -255..255.
-pub fn forward(residual: &[i32], coefficients: &mut [i32]) -> Answer
+pub fn forward(residual: &[i32], coefficients: &mut [i32]) -> Result<(), Refusal>
     ensures { Forwards residual.now coefficients.old result coefficients.new }
 {
     if residual.len() != 16 {
-        return Answer::Refused(Refusal::Length);
+        return Err(Refusal::Length);
     }
     if coefficients.len() != 16 {
-        return Answer::Refused(Refusal::Length);
+        return Err(Refusal::Length);
     }
-    let place = whole::inner::first_outside(residual, -255, 255);
-    if place < 16 {
-        return Answer::Refused(Refusal::Residual(place));
+    if let Some(place) = whole::inner::first_outside(residual, -255, 255) {
+        return Err(Refusal::Residual(place));
     }
-    let mut x = [0i32; 16];
-    whole::inner::copy(residual, &mut x);
+    let x = <[i32; 16]>::try_from(residual).unwrap();
     let y = inner::forward_block(x);
-    whole::inner::copy(&y, coefficients);
-    Answer::Done
+    coefficients.copy_from_slice(&y);
+    Ok(())
 }

@@ -1,13 +1,15 @@
 // The rooms of a recorded request, in fixed places of its frame (tests/README.md), and the parts of them that are lent. The crate `recorded` reads
 // its numbers.
-ghost use Rattle.std.specs.Prelude.{◌≡◌, ◌≤◌, ◌<◌, length};
+ghost use Rattle.std.specs.Prelude.{◌≤◌, ◌<◌};
+
+use picture::Layout;
 
 // What every byte of a frame holds at first, and every byte of an output before its call: so a number of an output is four of these.
 pub(crate) const BEFORE: u8 = 90;
 
 pub(crate) const NUMBER_BEFORE: i32 = 1515870810;
 
-// The rooms: a list of numbers; a file; a luma plane; a chroma plane.
+// The rooms of outputs: a list of numbers; a file; a luma plane; a chroma plane.
 pub(crate) const NUMBERS: usize = 17;
 
 pub(crate) const FILE: usize = 12682;
@@ -16,99 +18,128 @@ pub(crate) const PLANE: usize = 4096;
 
 pub(crate) const CHROMA: usize = 1024;
 
-// Where the parts begin: the arguments that are no slices, eight bytes each; the word expected; the lengths of the nine slices.
-pub(crate) const WORD: usize = 48;
+pub(crate) type Frame = [u8; 36838];
 
-pub(crate) const LENGTHS: usize = 56;
+// Where the lengths of the nine slices begin.
+const LENGTHS: usize = 56;
 
-// The numbers lent, the numbers expected, the second, the third and the first bytes lent, the bytes expected of four outputs.
-pub(crate) const LIST: usize = 74;
+// Where a slice stands in a frame, and the place of its length among the nine.
+#[derive(Clone, Copy)]
+pub(crate) struct Room {
+    slice: usize,
+    start: usize,
+    end: usize,
+    ghost inside: { (slice < 9) × (start ≤ end) × (end ≤ 36838) },
+}
 
-pub(crate) const MADE: usize = 142;
+// The bytes lent.
+pub(crate) const FIRST: Room = Room {
+    slice: 0,
+    start: 5330,
+    end: 18012,
+};
 
-pub(crate) const SECOND: usize = 210;
+pub(crate) const SECOND: Room = Room {
+    slice: 1,
+    start: 210,
+    end: 4306,
+};
 
-pub(crate) const THIRD: usize = 4306;
+pub(crate) const THIRD: Room = Room {
+    slice: 2,
+    start: 4306,
+    end: 5330,
+};
 
-pub(crate) const FIRST: usize = 5330;
+// The numbers lent, and those expected.
+pub(crate) const LIST: Room = Room {
+    slice: 3,
+    start: 74,
+    end: 142,
+};
 
-pub(crate) const OUT: usize = 18012;
+pub(crate) const MADE: Room = Room {
+    slice: 4,
+    start: 142,
+    end: 210,
+};
 
-pub(crate) const MORE: usize = 30694;
+// The bytes expected of four outputs.
+pub(crate) const OUT: Room = Room {
+    slice: 5,
+    start: 18012,
+    end: 30694,
+};
 
-pub(crate) const EXTRA: usize = 34790;
+pub(crate) const MORE: Room = Room {
+    slice: 6,
+    start: 30694,
+    end: 34790,
+};
 
-pub(crate) const LAST: usize = 35814;
+pub(crate) const EXTRA: Room = Room {
+    slice: 7,
+    start: 34790,
+    end: 35814,
+};
 
-pub(crate) const END: usize = 36838;
+pub(crate) const LAST: Room = Room {
+    slice: 8,
+    start: 35814,
+    end: 36838,
+};
+
+impl Room {
+    // The length of the slice, cut to the room there is. Of the room its length is told, whether it holds bytes or numbers.
+    fn lent(self, frame: &Frame, room: usize) -> usize
+        ensures { result ≤ room }
+    {
+        let length = recorded::inner::two_bytes(frame, LENGTHS + 2 * self.slice) as usize;
+        length.min(room)
+    }
+
+    // The bytes of the frame that are lent.
+    pub(crate) fn bytes_in(self, frame: &Frame) -> &[u8] {
+        let behind = self.start + self.lent(frame, self.end - self.start);
+        &frame[self.start..behind]
+    }
+
+    // The part of a list that is lent, and of an output.
+    pub(crate) fn part_in<'a, T>(self, frame: &Frame, list: &'a [T]) -> &'a [T] {
+        let length = self.lent(frame, list.len());
+        &list[..length]
+    }
+
+    pub(crate) fn part_out<'a, T>(self, frame: &Frame, output: &'a mut [T]) -> &'a mut [T] {
+        let length = self.lent(frame, output.len());
+        &mut output[..length]
+    }
+
+    // Whether an output of bytes is left as it stands in the frame.
+    pub(crate) fn is_left(self, frame: &Frame, output: &[u8]) -> bool {
+        output == &frame[self.start..self.end]
+    }
+}
+
+// The word expected.
+pub(crate) fn word(frame: &Frame) -> u64 {
+    recorded::inner::eight_bytes(frame, 48)
+}
+
+// The numbers lent, and those expected. No method of `Room`, as `bytes_in` is: `list_of` asks for 68 bytes, which a room need not have and these two do.
+pub(crate) fn list(frame: &Frame) -> [i32; NUMBERS] {
+    recorded::inner::list_of(&frame[LIST.start..LIST.end])
+}
+
+pub(crate) fn expected(frame: &Frame) -> [i32; NUMBERS] {
+    recorded::inner::list_of(&frame[MADE.start..MADE.end])
+}
 
 // A picture's size and the rows of a slice, which are the first arguments of a coder.
-#[derive(Clone, Copy)]
-pub(crate) struct Size {
-    pub(crate) width: usize,
-    pub(crate) height: usize,
-    pub(crate) rows: usize,
-}
-
-pub(crate) fn size_in(frame: &[u8]) -> Size
-    requires { length frame.now ≡ 36838 }
-{
-    let width = recorded::inner::eight_bytes(frame, 0) as usize;
-    let height = recorded::inner::eight_bytes(frame, 8) as usize;
-    let rows = recorded::inner::eight_bytes(frame, 16) as usize;
-    Size {
-        width: width,
-        height: height,
-        rows: rows,
+pub(crate) fn layout_in(frame: &Frame) -> Layout {
+    Layout {
+        width: recorded::inner::eight_bytes(frame, 0) as usize,
+        height: recorded::inner::eight_bytes(frame, 8) as usize,
+        rows: recorded::inner::eight_bytes(frame, 16) as usize,
     }
-}
-
-// The length of a slice, cut to the room there is.
-fn lent(frame: &[u8], slice: usize, room: usize) -> usize
-    requires { (slice < 9) × (length frame.now ≡ 36838) }
-    ensures { result ≤ room }
-{
-    let length = recorded::inner::two_bytes(frame, LENGTHS + 2 * slice) as usize;
-    if length < room { length } else { room }
-}
-
-// The bytes of a slice that is lent, whose room is between two places.
-pub(crate) fn bytes_in(frame: &[u8], slice: usize, start: usize, end: usize) -> &[u8]
-    requires { (slice < 9) × (length frame.now ≡ 36838) × (start ≤ end) × (end ≤ 36838) }
-{
-    let behind = start + lent(frame, slice, end - start);
-    &frame[start..behind]
-}
-
-// The part of an output's room that is lent.
-pub(crate) fn bytes_out<'a>(frame: &[u8], slice: usize, room: &'a mut [u8]) -> &'a mut [u8]
-    requires { (slice < 9) × (length frame.now ≡ 36838) }
-{
-    let length = lent(frame, slice, room.len());
-    &mut room[0..length]
-}
-
-// The same of numbers: the list that is lent, and the part of an output's room.
-pub(crate) fn numbers_in<'a>(frame: &[u8], slice: usize, list: &'a [i32]) -> &'a [i32]
-    requires { (slice < 9) × (length frame.now ≡ 36838) }
-{
-    let length = lent(frame, slice, list.len());
-    &list[0..length]
-}
-
-pub(crate) fn numbers_out<'a>(frame: &[u8], slice: usize, room: &'a mut [i32]) -> &'a mut [i32]
-    requires { (slice < 9) × (length frame.now ≡ 36838) }
-{
-    let length = lent(frame, slice, room.len());
-    &mut room[0..length]
-}
-
-// Whether an output of bytes is left as it stands between two places of the frame.
-pub(crate) fn has_bytes(frame: &[u8], start: usize, end: usize, out: &[u8]) -> bool
-    requires { start ≤ end }
-{
-    if frame.len() < end {
-        return false;
-    }
-    check::same(out, &frame[start..end])
 }

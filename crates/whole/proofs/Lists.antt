@@ -1,7 +1,7 @@
 -- Lists of whole numbers: bounds on each, numbers that are read back from their bits, and several results of straight-line code at once.
 --     each_less, each_from, each_tab, each_gather         bounds of a list
 --     each_take, each_drop, each_append, each_parts       of its parts, and of what is put together
---     reads: plain, plain_fits, plain_gather             numbers read back from their bits are the numbers
+--     reads: plain                                        numbers read back from their bits are the numbers
 --     gather                                              the numbers at a list of places
 --     raws_of, ideals, expressions; oks, mosts            a list of `Code`, as `raw`, `ideal`, `expression`, `ok` and `most` of each
 --     exacts, sizes                                       each is exact; each is at most M
@@ -15,8 +15,7 @@ use lib.IntN.{ℤ, pos}
 use lib.ListN.{length, get_or, take, drop}
 use lib.Dec.{T, ltb, leb}
 use mir.Syntax.{Width}
-use mir.Val.{to_z, of_z, SFits, hbits}
-use mir.ValLaws.{to_z-of_z}
+use mir.Val.{to_z, of_z, hbits}
 use Rattle.lists.proofs.Every.{both_left, both_right}
 use Rattle.lists.specs.Parts.{parts}
 use Rattle.lists.specs.Tab.{tab}
@@ -35,11 +34,6 @@ reads w l = map (λ (z : ℤ). to_z w (of_z w z)) l
 pub plain : (w : Width) (B : ℕ) (l : List ℤ) → Each B l → T (ltb B (2 ^ hbits w)) → reads w l ≡ l
 plain w B [] h t = refl
 plain w B (z ∷ l) h t = λ i. (wrap w (here h.0) t).is i ∷ plain w B l h.1 t i
-
--- and so of any numbers that fit
-pub plain_fits : (w : Width) (l : List ℤ) → ((i : ℕ) → SFits w (get_or l i (pos 0))) → reads w l ≡ l
-plain_fits w [] h = refl
-plain_fits w (z ∷ l) h = λ t. to_z-of_z w z (h 0) t ∷ plain_fits w l (λ i. h (suc i)) t
 
 pub each_less : (A B : ℕ) (l : List ℤ) → Each A l → T (leb A B) → Each B l
 each_less A B [] h t = tt
@@ -85,9 +79,6 @@ gather is l = map (λ (i : ℕ). get_or l i (pos 0)) is
 pub each_gather : (B : ℕ) (is : List ℕ) (l : List ℤ) → Each B l → Each B (gather is l)
 each_gather B [] l h = tt
 each_gather B (i ∷ is) l h = (each_at B l h i, each_gather B is l h)
-
-pub plain_gather : (w : Width) (B : ℕ) (is : List ℕ) (l : List ℤ) → Each B l → T (ltb B (2 ^ hbits w)) → reads w (gather is l) ≡ gather is l
-plain_gather w B is l h t = plain w B (gather is l) (each_gather B is l h) t
 
 -- ---- several results at once
 

@@ -10,10 +10,10 @@
 use mathlib.Core.Path.{◌≡◌, refl, sym, ◌∙◌, ap, subst}
 use mathlib.Core.List.{List, [], ◌∷◌, map}
 use Prim.Native.Nat.{ℕ, zero, suc, compare, Ordering}
-use lib.IntN.{ℤ, pos, negsuc, neg_ℤ, ◌+ℤ◌, ◌*ℤ◌, +ℤ_assoc, +ℤ_comm, +ℤ_idl, +ℤ_idr, *ℤ_comm, zero-*ℤ, *ℤ-zero}
+use lib.IntN.{ℤ, pos, negsuc, neg_ℤ, ◌+ℤ◌, ◌*ℤ◌, +ℤ_assoc, +ℤ_comm, +ℤ_idl, +ℤ_idr, one, *ℤ_comm, *ℤ-one, zero-*ℤ, *ℤ-zero}
 use lib.ListN.{get_or}
 use lib.Dec.{eqb→eq, T, compare_is_eq}
-use Rattle.whole.proofs.Laws.{*ℤ_assoc, *ℤ-+ℤ, +ℤ-*ℤ, neg_mul, mul_one}
+use Rattle.whole.proofs.Laws.{*ℤ_assoc, *ℤ-+ℤ, +ℤ-*ℤ, neg_mul}
 
 infixl 6 ◌⊕◌ ◌⊖◌
 infixl 7 ◌⊗◌
@@ -174,6 +174,10 @@ module _ (ρ : List ℤ) where
   with_variable_value i [] = refl
   with_variable_value i (j ∷ m) = variable_placed_value (compare i j) i j m (with_variable i m) (with_variable_value i m)
 
+  mul_one : (x : ℤ) → pos 1 *ℤ x ≡ x
+  unfolding one
+  mul_one x = *ℤ_comm (pos 1) x ∙ *ℤ-one x
+
   merge_value : (m n : List ℕ) → product_of (merge m n) ≡ product_of m *ℤ product_of n
   unfolding product_of
   merge_value [] n = sym (mul_one (product_of n))
@@ -198,17 +202,14 @@ module _ (ρ : List ℤ) where
   multiplied_value (term c m p) q =
       with_terms_value (times_term c m q) (multiplied p q) ∙ (λ i. times_term_value c m q i +ℤ multiplied_value p q i) ∙ sym (+ℤ-*ℤ (c *ℤ product_of m) (sum_of p) (sum_of q))
 
-  times_one : (x : ℤ) → x *ℤ pos 1 ≡ x
-  times_one x = *ℤ_comm x (pos 1) ∙ mul_one x
-
   normal_value : (e : Expression) → sum_of (normal e) ≡ value ρ e
-  unfolding sum_of product_of
-  normal_value (var i) = +ℤ_idr (pos 1 *ℤ (get_or ρ i (pos 0) *ℤ pos 1)) ∙ mul_one (get_or ρ i (pos 0) *ℤ pos 1) ∙ times_one (get_or ρ i (pos 0))
-  normal_value (con c) = keep_value c [] none ∙ +ℤ_idr (c *ℤ pos 1) ∙ times_one c
+  unfolding sum_of product_of one
+  normal_value (var i) = +ℤ_idr (pos 1 *ℤ (get_or ρ i (pos 0) *ℤ pos 1)) ∙ mul_one (get_or ρ i (pos 0) *ℤ pos 1) ∙ *ℤ-one (get_or ρ i (pos 0))
+  normal_value (con c) = keep_value c [] none ∙ +ℤ_idr (c *ℤ pos 1) ∙ *ℤ-one c
   normal_value (a ⊕ b) = with_terms_value (normal a) (normal b) ∙ (λ i. normal_value a i +ℤ normal_value b i)
   normal_value (a ⊗ b) = multiplied_value (normal a) (normal b) ∙ (λ i. normal_value a i *ℤ normal_value b i)
   normal_value (neg a) =
-      times_term_value (negsuc 0) [] (normal a) ∙ ap (λ (t : ℤ). t *ℤ sum_of (normal a)) (times_one (negsuc 0)) ∙ neg_mul (pos 1) (sum_of (normal a))
+      times_term_value (negsuc 0) [] (normal a) ∙ ap (λ (t : ℤ). t *ℤ sum_of (normal a)) (*ℤ-one (negsuc 0)) ∙ neg_mul (pos 1) (sum_of (normal a))
       ∙ ap neg_ℤ (mul_one (sum_of (normal a)) ∙ normal_value a)
 
 -- two expressions with one normal form have one value

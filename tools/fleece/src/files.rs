@@ -69,7 +69,7 @@ impl Source {
 
 /// All bytes, up to one more than are taken; so many are expected.
 fn all(from: impl Read, expected: u64) -> io::Result<Vec<u8>> {
-    let mut bytes = Vec::with_capacity(expected.min(LARGEST) as usize);
+    let mut bytes = fleecebutton::room(expected.min(LARGEST) as usize);
     from.take(LARGEST + 1).read_to_end(&mut bytes)?;
     Ok(bytes)
 }

@@ -1,4 +1,4 @@
-//! The library's functions as it exports them, over slices: all unsafe code of the tools.
+//! The library's functions as it exports them, over slices: all unsafe code of the tools but one hint to the system (`pages`).
 //!
 //! What the library asks of a caller (`include/fleecebutton.h`), and why the calls below keep it whatever they are given:
 //! - a pointer is to as many elements as are lent with it: both are taken of one slice, whose pointer is aligned and not null, an empty

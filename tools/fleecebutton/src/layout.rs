@@ -1,5 +1,6 @@
 //! How large a picture is and how it is cut.
 
+use crate::pages;
 use std::fmt;
 
 /// Samples in a row of a macroblock, and in a column.
@@ -67,7 +68,7 @@ impl Layout {
     /// So many bytes, to be lent; none where no picture is so large, since SIZE is then told before any length is looked at.
     pub(crate) fn area(self, bytes: usize) -> Vec<u8> {
         if self.width <= MOST && self.height <= MOST {
-            vec![0; bytes]
+            pages::zeros(bytes)
         } else {
             Vec::new()
         }

@@ -2,7 +2,8 @@
 //!
 //! Each function calls the exported function of its name (`include/fleecebutton.h`) and hands back what that wrote, or the [`Refusal`] that it
 //! sent, in words. Blocks have their lengths in their types; planes and files are slices, and a wrong length of one is refused. What is
-//! written is allocated here; the functions that end in `_into` write into areas that are lent, and allocate nothing.
+//! written is allocated here; the functions that end in `_into` write into areas that are lent, and allocate nothing. Of the functions that are
+//! no methods [`room`] alone calls nothing of the library: it makes room for a file to be read into.
 //!
 //! ```
 //! use fleecebutton::{code_plane, decode_plane, Layout};
@@ -20,6 +21,8 @@ mod block;
 mod calls;
 mod fault;
 mod layout;
+#[allow(unsafe_code)]
+mod pages;
 mod plane;
 mod record;
 mod refusal;
@@ -31,6 +34,7 @@ pub use block::{
     promised_distance, rebuild, rebuild_with_dc, Choice, CodedBlock,
 };
 pub use layout::{Layout, Macroblock, MOST, SIDE};
+pub use pages::room;
 pub use plane::{
     code_picture, code_picture_into, code_plane, code_plane_into, decode_picture, decode_picture_into, decode_plane, decode_plane_into,
     inspect, read_head, CodedPicture, CodedPlane, Coding, DecodedPicture, DecodedPlane, Planes, PlanesMut,

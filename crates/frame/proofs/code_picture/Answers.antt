@@ -1,5 +1,7 @@
 -- `frame::code_picture` meets its contract: a law for each answer. Assumes nothing.
-use mathlib.Core.Path.{◌≡◌, sym, ap, ◌∙◌}
+use Rattle.std.specs.Prelude.{Ok, Err}
+use Rattle.std.proofs.lemmas.Result.{err_from_is_err_and}
+use mathlib.Core.Path.{refl, ◌≡◌, sym, ap, ◌∙◌}
 use mathlib.Core.Bool.{true}
 use mathlib.Core.List.{List}
 use native.Mathlib.Omega.{arith}
@@ -22,10 +24,10 @@ use Rattle.plane.specs.Code.{in_slices}
 use Rattle.plane.specs.Decode.{cleared}
 use Rattle.plane.proofs.Entry.{sound_slices}
 use Rattle.frame.specs.Code.{frame_tests}
-use Rattle.frame.proofs.FrameOutcome.{bad_size, bad_rows, frame_refused, picture_coded}
+use Rattle.frame.proofs.FrameOutcome.{frame_refused, picture_coded}
 use Rattle.frame.proofs.Tested.{FrameTold, frame_told}
 use Rattle.frame.proofs.code_picture.Goals as goal
-use Rattle.frame.proofs.code_picture.Goals.{After-frame_accepted, In-Legal}
+use Rattle.frame.proofs.code_picture.Goals.{After-frame_accepted, In_ok-quantizer}
 
 -- ---- what is known behind the call of `frame_accepted`
 
@@ -53,22 +55,22 @@ tests_of c cb_offset cr_offset =
 abbrev tests : After-frame_accepted → List (Test Refusal)
 tests c = tests_of c c.args.cb_offset c.args.cr_offset
 
--- its answer to them, of the offsets as they are
-answered : (c : After-frame_accepted) → Accepts (tests c) c.args.qp c.frame_accepted.result
-answered c = coe 0 1 (i. Accepts (tests_of c (cb_same c i) (cr_same c i)) c.args.qp c.frame_accepted.result) c.frame_accepted.ensures
-
 -- ---- and where it answers a quantizer
 
-abbrev call : In-Legal → After-frame_accepted
-call c = (goal.at.In-Legal c).After-frame_accepted
+abbrev call : In_ok-quantizer → After-frame_accepted
+call c = (goal.at.In_ok-quantizer c).After-frame_accepted
 
-passed : (c : In-Legal) → chain (tests (call c)) ≡ pass
-passed c = accepted_passed (tests (call c)) c.args.qp (answered (call c)) c.in-Legal.is
+-- of the offsets as they are
+legal_is : (c : In_ok-quantizer) → Accepts (tests (call c)) c.args.qp (Ok c.in_ok-quantizer.quantizer)
+legal_is c = coe 0 1 (i. Accepts (tests_of (call c) (cb_same (call c) i) (cr_same (call c) i)) c.args.qp (Ok c.in_ok-quantizer.quantizer)) c.in_ok-quantizer.ensures
 
-number : (c : In-Legal) → c.in-Legal.quantizer.qp ≡ c.args.qp
-number c = accepted_number (tests (call c)) c.args.qp (answered (call c)) c.in-Legal.is
+passed : (c : In_ok-quantizer) → chain (tests (call c)) ≡ pass
+passed c = accepted_passed (tests (call c)) c.args.qp (legal_is c) refl
 
-told : (c : In-Legal) → (
+number : (c : In_ok-quantizer) → c.in_ok-quantizer.quantizer.qp ≡ c.args.qp
+number c = accepted_number (tests (call c)) c.args.qp (legal_is c) refl
+
+told : (c : In_ok-quantizer) → (
     let a = c.args in
     FrameTold (in_slices a.width a.height a.rows) a.qp a.cb_offset a.cr_offset (length a.luma.now) (length a.cb.now) (length a.cr.now) (length a.file.now)
     (length a.luma_out.now) (length a.cb_out.now) (length a.cr_out.now)
@@ -77,31 +79,21 @@ told c = frame_told _ _ _ _ _ _ _ _ _ _ _ (passed c)
 
 -- ---- the answers
 
-pub returns-then-not-size_holds : goal.returns-then-not-size_holds
-returns-then-not-size_holds c =
-    let a = c.args in
-    bad_size _ _ _ _ _ _ a.luma.now a.cb.now a.cr.now a.file.now a.luma_out.now a.cb_out.now a.cr_out.now
-    (sym c.size_holds.ensures ∙ c.if-not-size_holds.true)
-
-pub returns-then-not-rows_hold : goal.returns-then-not-rows_hold
-returns-then-not-rows_hold c =
-    let a = c.args in
-    bad_rows _ _ _ _ _ _ a.luma.now a.cb.now a.cr.now a.file.now a.luma_out.now a.cb_out.now a.cr_out.now
-    (sym c.size_holds.ensures ∙ c.if-not-size_holds.false) (sym c.rows_hold.ensures ∙ c.if-not-rows_hold.true)
-
 pub frame_accepted-requires : goal.frame_accepted-requires
 frame_accepted-requires c = sound_slices _ _ _ (sym c.size_holds.ensures ∙ c.if-not-size_holds.false) (sym c.rows_hold.ensures ∙ c.if-not-rows_hold.false)
 
-pub returns-in-Refused : goal.returns-in-Refused
-returns-in-Refused c =
+pub returns-in_err-quantizer : goal.returns-in_err-quantizer
+returns-in_err-quantizer c =
     let a = c.args in
-    let s = (goal.at.returns-in-Refused c).After-frame_accepted in
-    frame_refused _ _ _ _ _ _ a.luma.now a.cb.now a.cr.now a.file.now a.luma_out.now a.cb_out.now a.cr_out.now
-    (sized s) (sliced s) (accepted_refused (tests s) a.qp (answered s) c.in-Refused.is)
+    let s = (goal.at.returns-in_err-quantizer c).After-frame_accepted in
+    let refused = coe 0 1 (i. Accepts (tests_of s (cb_same s i) (cr_same s i)) a.qp (Err c.in_err-quantizer.field-0.0)) c.in_err-quantizer.ensures in
+    let p = err_from_is_err_and c.from_residual.result c.from_residual.ensures.1 in
+    rw (p.1, p.2) (frame_refused _ _ _ _ _ _ a.luma.now a.cb.now a.cr.now a.file.now a.luma_out.now a.cb_out.now a.cr_out.now
+    (sized s) (sliced s) (accepted_refused (tests s) a.qp refused refl))
 
 pub code_frame-requires-clause-sound : goal.code_frame-requires-clause-sound
 code_frame-requires-clause-sound c =
-    let legal = (goal.at.code_frame-requires-clause-sound c).In-Legal in
+    let legal = (goal.at.code_frame-requires-clause-sound c).In_ok-quantizer in
     let s = call legal in
     let t = told legal in (
       sound_slices _ _ _ (sized s) (sliced s),
@@ -113,26 +105,26 @@ code_frame-requires-clause-sound c =
 
 pub code_frame-requires-clause-luma_len : goal.code_frame-requires-clause-luma_len
 code_frame-requires-clause-luma_len c =
-    let given = (told (goal.at.code_frame-requires-clause-luma_len c).In-Legal).given in
+    let given = (told (goal.at.code_frame-requires-clause-luma_len c).In_ok-quantizer).given in
     (given.luma_fits, given.cb_fits, given.cr_fits)
 
 pub code_frame-requires-clause-layout_in_bounds : goal.code_frame-requires-clause-layout_in_bounds
 code_frame-requires-clause-layout_in_bounds c =
-    let t = told (goal.at.code_frame-requires-clause-layout_in_bounds c).In-Legal in
+    let t = told (goal.at.code_frame-requires-clause-layout_in_bounds c).In_ok-quantizer in
     let luma = c.clear.ensures ∙ ap cleared t.rebuilt.luma_fits in
-    let cb = c.clear-in-Legal.ensures ∙ ap cleared t.rebuilt.cb_fits in
-    let cr = c.clear-in-Legal-2.ensures ∙ ap cleared t.rebuilt.cr_fits in
+    let cb = c.clear-2.ensures ∙ ap cleared t.rebuilt.cb_fits in
+    let cr = c.clear-3.ensures ∙ ap cleared t.rebuilt.cr_fits in
     (omega (arith, t.area), ap length luma ∙ length_tab _ _, ap length cb ∙ length_tab _ _, ap length cr ∙ length_tab _ _)
 
-pub returns-in-Legal : goal.returns-in-Legal
-returns-in-Legal c =
+pub returns : goal.returns
+returns c =
     let a = c.args in
-    let legal = (goal.at.returns-in-Legal c).In-Legal in
+    let legal = (goal.at.returns c).In_ok-quantizer in
     let s = call legal in
     let t = told legal in
     let luma = c.clear.ensures ∙ ap cleared t.rebuilt.luma_fits in
-    let cb = c.clear-in-Legal.ensures ∙ ap cleared t.rebuilt.cb_fits in
-    let cr = c.clear-in-Legal-2.ensures ∙ ap cleared t.rebuilt.cr_fits in
+    let cb = c.clear-2.ensures ∙ ap cleared t.rebuilt.cb_fits in
+    let cr = c.clear-3.ensures ∙ ap cleared t.rebuilt.cr_fits in
     let y = c.code_frame.ensures in
     picture_coded _ _ _ _ _ _ a.luma.now a.cb.now a.cr.now a.file.now a.luma_out.now a.cb_out.now a.cr_out.now
     (sized s) (sliced s) (passed legal) (number legal) (cb_same s) (cr_same s) luma (λ i. pair (cb i) (cr i)) y.value y.file_after y.luma_out_after y.cr_out_after

@@ -30,7 +30,7 @@ area_length-requires c = sound_slices c.args.width c.args.height c.args.rows (cc
 
 pub code_file-requires-clause-sound : goal.code_file-requires-clause-sound
 code_file-requires-clause-sound c =
-    let q = built_legal _ c.in-Legal.ensures refl in
+    let q = built_legal _ c.in_ok-quantizer.ensures refl in
     (sound_slices c.args.width c.args.height c.args.rows (cc) (cc), rw q.0 q.1, c.if-plane-count.false)
 
 pub code_file-requires-clause-layout_in_bounds : goal.code_file-requires-clause-layout_in_bounds

@@ -1,15 +1,35 @@
 -- `printing::accepted` meets its contract: the word, mode and SAD, then the two lines. Assumes nothing.
-use mathlib.Core.List.{[]}
-use Prim.Native.Nat.{◌≤◌}
+use mathlib.Core.Path.{◌≡◌, refl, ap}
+use mathlib.Core.List.{List, [], ◌∷◌, ◌++◌}
+use Prim.Native.Nat.{ℕ, ◌<◌}
 use native.Mathlib.Omega.{arith}
-use Rattle.printing.proofs.Adding.{adds_more}
+use borrow.Author.Rules.{rules}
+use lib.IntN.{ℤ, pos}
+use lib.ListN.{get_or}
+use Rattle.lists.proofs.Parts.{parts_same}
+use Rattle.printing.specs.Text.{decimal_of, signed_of, behind, line_of}
+use Rattle.printing.proofs.Decimal.{decimal_is}
 use Rattle.printing.proofs.accepted.Goals as goal
 
-pub returns : goal.returns
-returns c =
-    let front : c.with_words-front.result.len ≤ 8 = omega (arith, c.with_words-front.ensures.1, c.empty.ensures.1) in
-    let mode : c.with_byte.result.len ≤ 29 = omega (arith, c.with_byte.ensures.more, c.with_number-first.ensures.1, front) in
-    let line : c.with_byte-2.result.len ≤ 50 = omega (arith, c.with_byte-2.ensures.more, c.with_number-second.ensures.1, mode) in
-    let first = adds_more (adds_more (adds_more (adds_more c.with_words-front.ensures.0 c.with_number-first.ensures.0) c.with_byte.ensures) c.with_number-second.ensures.0) c.with_byte-2.ensures in
-    let all = adds_more (adds_more first c.with_levels.ensures.0) c.with_samples.ensures.0 in
-    (all.wrote [] c.empty.ensures.0, omega (arith, line, c.with_levels.ensures.1, c.with_samples.ensures.1))
+-- a line of numbers without a sign
+line_pos : (z : List ℤ) (n : List ℕ) → ((k : ℕ) → k < 16 → get_or z k (pos 0) ≡ pos (get_or n k 0))
+    → line_of (λ k. signed_of (get_or z k (pos 0))) ≡ line_of (λ k. decimal_of (get_or n k 0))
+unfolding line_of signed_of
+line_pos z n e = parts_same 16 _ _ (λ k h. ap (λ (x : ℤ). signed_of x ++ (behind k ∷ [])) (e k h))
+
+pub returns-clause-text : goal.returns-clause-text
+returns-clause-text c =
+    let one : (k : ℕ) → k < 16 → get_or c.map.result k (pos 0) ≡ pos (get_or c.args.rebuilt k 0) = λ k h. search rules in
+    rw (
+      c.push_line-2.ensures.text,
+      c.push_line.ensures.text,
+      c.push_str-3.ensures,
+      c.push_number-2.ensures.text,
+      c.push_str-2.ensures,
+      c.push_number.ensures.text,
+      c.push_str.ensures,
+      c.new-text.ensures,
+      decimal_is c.args.mode (omega arith),
+      decimal_is c.args.sad (omega arith),
+      line_pos c.map.result c.args.rebuilt one,
+    ) refl

@@ -9,5 +9,5 @@ use Rattle.residual.proofs.rebuild.Goals as goal
 pub rescaled-numbers-requires : goal.rescaled-numbers-requires
 rescaled-numbers-requires c =
     let a = c.args in
-    let f = levels_legal 16 0 a.qp (length a.prediction.now) a.levels.now (length a.out.now) c.in-Legal.ensures refl in
+    let f = levels_legal 16 0 a.qp (length a.prediction.now) a.levels.now (length a.out.now) c.in_ok-quantizer.ensures refl in
     (rw f.number f.legal, subst (Each 32768) (sym c.placed.ensures) (places_each 32768 a.levels.now f.small))

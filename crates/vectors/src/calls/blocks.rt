@@ -1,68 +1,44 @@
 // The functions on 4x4 blocks that take samples.
-ghost use Rattle.std.specs.Prelude.{◌≡◌, length};
-
-use crate::calls::NEVER_SENT;
 use crate::rooms;
+use crate::rooms::Frame;
 
-pub(crate) fn answered(function: u8, frame: &[u8]) -> bool
-    requires { length frame.now ≡ 36838 }
-{
-    let wanted = recorded::inner::eight_bytes(frame, rooms::WORD);
-    let list = recorded::inner::list_of(&frame[rooms::LIST..rooms::MADE]);
-    let numbers = recorded::inner::list_of(&frame[rooms::MADE..rooms::SECOND]);
+#[derive(Clone, Copy)]
+pub(crate) enum Block {
+    Predict,
+    Choose,
+    Rebuild,
+    RebuildWithDc,
+    Code,
+}
+
+pub(crate) fn answered(block: Block, frame: &Frame) -> bool {
     let mut made = [rooms::NUMBER_BEFORE; rooms::NUMBERS];
     let mut out = [rooms::BEFORE; rooms::FILE];
-    let word = called(function, frame, &list, &mut made, &mut out);
-    (word == wanted)
-        & recorded::inner::same_list(made, numbers)
-        & rooms::has_bytes(frame, rooms::OUT, rooms::MORE, &out)
+    let word = called(block, frame, &mut made, &mut out);
+    (word == rooms::word(frame))
+        & recorded::inner::same_list(made, rooms::expected(frame))
+        & rooms::OUT.is_left(frame, &out)
 }
 
-// The call, with slices of the frame's lengths.
-fn called(function: u8, frame: &[u8], list: &[i32], made: &mut [i32], out: &mut [u8]) -> u64
-    requires { length frame.now ≡ 36838 }
-{
-    word(
-        function,
-        &frame[0..rooms::WORD],
-        rooms::bytes_in(frame, 0, rooms::FIRST, rooms::OUT),
-        rooms::bytes_in(frame, 1, rooms::SECOND, rooms::THIRD),
-        rooms::numbers_in(frame, 3, list),
-        rooms::numbers_out(frame, 4, made),
-        rooms::bytes_out(frame, 5, out),
-    )
-}
-
-// `values` are the arguments that are no slices, eight bytes each; the slices of a function are the first of their kind here.
-fn word(
-    function: u8,
-    values: &[u8],
-    first: &[u8],
-    second: &[u8],
-    list: &[i32],
-    made: &mut [i32],
-    out: &mut [u8],
-) -> u64
-    requires { length values.now ≡ 48 }
-{
-    match function {
-        0 => fleecebutton::fb_predict(first, values[0], values[8], out),
-        1 => fleecebutton::fb_choose(first, values[0], second, out),
-        4 => fleecebutton::fb_rebuild(values[0], first, list, out),
-        5 => of_given_dc(values, first, list, out),
-        11 => fleecebutton::fb_code_block(values[0], values[8], first, second, made, out),
-        _ => NEVER_SENT,
+// The call, with slices of the frame's lengths; the slices of a function are the first of their kind.
+fn called(block: Block, frame: &Frame, made: &mut [i32], out: &mut [u8]) -> u64 {
+    let first = rooms::FIRST.bytes_in(frame);
+    let second = rooms::SECOND.bytes_in(frame);
+    let numbers = rooms::list(frame);
+    let list = rooms::LIST.part_in(frame, &numbers);
+    let made = rooms::MADE.part_out(frame, made);
+    let out = rooms::OUT.part_out(frame, out);
+    match block {
+        Block::Predict => fleecebutton::fb_predict(first, frame[0], frame[8], out),
+        Block::Choose => fleecebutton::fb_choose(first, frame[0], second, out),
+        Block::Rebuild => fleecebutton::fb_rebuild(frame[0], first, list, out),
+        Block::RebuildWithDc => fleecebutton::fb_rebuild_with_dc(
+            frame[0],
+            first,
+            recorded::inner::four_signed(frame, 8),
+            list,
+            out,
+        ),
+        Block::Code => { fleecebutton::fb_code_block(frame[0], frame[8], first, second, made, out) }
     }
-}
-
-fn of_given_dc(values: &[u8], first: &[u8], list: &[i32], out: &mut [u8]) -> u64
-    requires { length values.now ≡ 48 }
-{
-    fleecebutton::fb_rebuild_with_dc(
-        values[0],
-        first,
-        recorded::inner::four_signed(values, 8),
-        list,
-        out,
-    )
 }

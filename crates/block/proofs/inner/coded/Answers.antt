@@ -28,15 +28,15 @@ rebuilt-rebuilt-requires c =
     let qp = c.args.quantizer.qp in
     let x = c.lacking.result in
     let small = c.lacking.ensures.1 in
-    (q, shown_bytes c.args.neighbours.now _ _ _ c.chosen-choice.ensures (bytes_known _ c.type_inv.neighbours), subst (Each 32768) (sym c.quantized-raster.ensures) (levels_small qp x q small), subst (Each 32768) (sym (ap (rescaled qp) c.quantized-raster.ensures)) (numbers_small qp x q small))
+    (q, shown_bytes c.args.neighbours.now _ _ _ c.chosen-mode.ensures (bytes_known _ c.type_inv.neighbours), subst (Each 32768) (sym c.quantized-raster.ensures) (levels_small qp x q small), subst (Each 32768) (sym (ap (rescaled qp) c.quantized-raster.ensures)) (numbers_small qp x q small))
 
-pub returns-then-choice-gt0 : goal.returns-then-choice-gt0
-returns-then-choice-gt0 c =
-    carried _ _ _ c.chosen-choice.result c.chosen-choice.ensures c.lacking.ensures.0 c.quantized-raster.ensures c.in_zigzag-levels.ensures c.rebuilt-rebuilt.ensures
+pub returns-then-sad-gt0 : goal.returns-then-sad-gt0
+returns-then-sad-gt0 c =
+    carried _ _ _ c.chosen-mode.result c.chosen-mode.ensures c.lacking.ensures.0 c.quantized-raster.ensures c.in_zigzag-levels.ensures c.rebuilt-rebuilt.ensures
     (coded_small c.args.quantizer.qp c.lacking.result c.requires.0 c.lacking.ensures.1)
 
-pub returns-else-choice-gt0 : goal.returns-else-choice-gt0
+pub returns-else-sad-gt0 : goal.returns-else-sad-gt0
 unfolding tab
-returns-else-choice-gt0 c =
-    let sixteen : length c.chosen-choice.result.prediction ≡ 16 = search rules in
-    nothing_carried c.args.quantizer.qp c.requires.0 _ c.args.samples.now c.chosen-choice.result c.chosen-choice.ensures c.requires.2 sixteen (shown_bytes c.args.neighbours.now _ _ _ c.chosen-choice.ensures (bytes_known _ c.type_inv.neighbours)) (omega (arith, c.if-choice-gt0.false)) refl
+returns-else-sad-gt0 c =
+    let sixteen : length c.chosen-mode.result.prediction ≡ 16 = search rules in
+    nothing_carried c.args.quantizer.qp c.requires.0 _ c.args.samples.now c.chosen-mode.result c.chosen-mode.ensures c.requires.2 sixteen (shown_bytes c.args.neighbours.now _ _ _ c.chosen-mode.ensures (bytes_known _ c.type_inv.neighbours)) (omega (arith, c.if-sad-gt0.false)) refl

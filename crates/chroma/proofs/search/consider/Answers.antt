@@ -1,14 +1,9 @@
 -- `chroma::search::consider` meets its contract: what is permitted is weighed by the sum of both SADs. Assumes nothing.
 use mathlib.Core.Path.{sym, ◌∙◌}
-use Rattle.chroma.proofs.Found.{looked_at, looked_past}
+use Rattle.chroma.proofs.Found.{looked_past}
 use Rattle.chroma.proofs.search.consider.Goals as goal
 
 pub returns-else-permitted : goal.returns-else-permitted
 returns-else-permitted c =
     let a = c.args in
     looked_past a.flags a.cb_neighbours.now a.cr_neighbours.now a.cb_samples.now a.cr_samples.now a.mode a.best (sym c.permitted.ensures ∙ c.if-permitted.false)
-
-pub returns-then-permitted : goal.returns-then-permitted
-returns-then-permitted c =
-    let a = c.args in
-    looked_at a.flags a.cb_neighbours.now a.cr_neighbours.now a.cb_samples.now a.cr_samples.now a.mode a.best c.tried.ensures c.tried-then-permitted.ensures c.look.ensures

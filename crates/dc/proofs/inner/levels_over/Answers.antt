@@ -1,11 +1,15 @@
 -- `dc::inner::levels_over` meets its contract: the count tells the path. Assumes nothing.
 use mathlib.Core.Path.{◌∙◌}
 use native.Mathlib.Omega.{arith}
-use Rattle.dc.proofs.Levels.{luma_path, chroma_path}
+use lib.ListN.{length}
+use Rattle.dc.specs.Dc.{luma_levels, chroma_levels, dc_levels}
+use Rattle.dc.proofs.Levels.{of_sixteen, of_four}
 use Rattle.dc.proofs.inner.levels_over.Goals as goal
 
 pub returns-then-dc-eq16 : goal.returns-then-dc-eq16
-returns-then-dc-eq16 c = c.luma_levels.ensures ∙ luma_path _ _ _ (omega arith)
+unfolding dc_levels
+returns-then-dc-eq16 c = c.luma_levels.ensures ∙ of_sixteen (length c.args.dc.now) _ (chroma_levels c.args.quantizer.qp c.args.dc.now) (omega arith)
 
 pub returns-else-dc-eq16 : goal.returns-else-dc-eq16
-returns-else-dc-eq16 c = c.chroma_levels.ensures ∙ chroma_path _ _ _ (λ e. omega arith)
+unfolding dc_levels
+returns-else-dc-eq16 c = c.chroma_levels.ensures ∙ of_four (length c.args.dc.now) (luma_levels c.args.quantizer.qp c.args.dc.now) _ (λ e. omega arith)

@@ -5,15 +5,11 @@ use native.Mathlib.Omega.{arith}
 use borrow.Author.Rules.{rules}
 use Rattle.lists.proofs.Chains.{chain_pass}
 use Rattle.lists.proofs.Fold.{folding_none, folding_more, folding_done}
-use Rattle.picture.proofs.Plane.{samples_fit}
 use Rattle.plane.specs.Decode.{macroblock_tests}
 use Rattle.plane.proofs.Entry.{records_passed}
 use Rattle.plane.proofs.Walking.{walking_none, next_is, next_inside}
 use Rattle.frame.specs.Decode.{cb_from, cr_from}
 use Rattle.frame.proofs.rebuild.rebuild_all.Goals as goal
-
-pub overflow_mul-count : goal.overflow_mul-count
-overflow_mul-count c = omega (arith, samples_fit c.requires.sound.0)
 
 pub loop-m-init : goal.loop-m-init
 loop-m-init c =

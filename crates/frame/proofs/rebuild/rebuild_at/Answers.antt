@@ -5,7 +5,6 @@ use lib.ListN.{length}
 use Rattle.record.specs.Records.{qp_in}
 use Rattle.macroblock.proofs.Contents.{content_legal}
 use Rattle.macroblock_chroma.specs.Fine.{FineChroma}
-use Rattle.macroblock_chroma.specs.Rebuild.{cb_step, cr_step}
 use Rattle.macroblock_chroma.proofs.Contents.{fine_chroma}
 use Rattle.plane.specs.Decode.{luma_in, chroma_in, chroma_place}
 use Rattle.plane.proofs.Walking.{luma_passed, tests_colour}
@@ -27,15 +26,3 @@ rebuild_chroma-requires-clause-among c =
       ap length b.part ∙ b.long,
       coe 0 1 (i. FineChroma a.layout a.m (sym b.qp_is i) (sym b.part i)) fine,
     )
-
-pub returns-clause-cb_after : goal.returns-clause-cb_after
-returns-clause-cb_after c =
-    let a = c.args in
-    let b = c.behind_luma-behind.ensures in
-    c.rebuild_chroma.ensures.cb_after ∙ (λ i. cb_step a.layout a.m (b.qp_is i) (b.part i) a.cb.now)
-
-pub returns-clause-cr_after : goal.returns-clause-cr_after
-returns-clause-cr_after c =
-    let a = c.args in
-    let b = c.behind_luma-behind.ensures in
-    c.rebuild_chroma.ensures.cr_after ∙ (λ i. cr_step a.layout a.m (b.qp_is i) (b.part i) a.cr.now)

@@ -1,21 +1,10 @@
-use mathlib.Core.Path.{◌≡◌}
-use Prim.Native.Nat.{◌+◌, ◌*◌}
 use native.Mathlib.Omega.{arith}
 use borrow.Author.Rules.{rules}
-use Rattle.lists.specs.Parts.{parts}
-use Rattle.lists.proofs.Parts.{growing_none, growing_part, parts_more}
+use Rattle.lists.proofs.Tab.{filling_none, filling_more}
 use Rattle.intra4.proofs.fills.put_all.Goals as goal
 
 pub loop-mode-init : goal.loop-mode-init
-unfolding parts
-loop-mode-init c = (omega arith, omega arith, growing_none _)
+loop-mode-init c = filling_none _ _ (search rules)
 
 pub loop-mode-preserved : goal.loop-mode-preserved
-loop-mode-preserved c =
-    let m = c.loop-mode.mode in
-    let e : 16 * (m + 1) ≡ 16 * m + 16 = omega arith in (
-      omega arith,
-      search rules,
-      rw (e, parts_more, ← c.put.ensures)
-          (growing_part c.put.new.out (16 * m + 16) c.loop-mode.invariant.2 (omega arith) (omega arith) (search rules)),
-    )
+loop-mode-preserved c = filling_more _ _ c.loop-mode.invariant (omega arith) c.put.ensures

@@ -6,4 +6,4 @@ pub returns : goal.returns
 returns c =
     let a = c.args in
     candidate_made a.layout a.m a.quantizer.qp a.plane.now a.rebuilt.now c.choose-best.result
-    c.flags_round-flags.ensures c.gather_round.ensures c.read_whole.ensures c.choose-best.ensures c.levels16.ensures
+    c.flags_round-flags.ensures c.gather_round.ensures c.read_whole.ensures c.choose-best.ensures c.levels.ensures

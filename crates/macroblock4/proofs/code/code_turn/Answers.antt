@@ -1,30 +1,24 @@
 -- `macroblock4::code::code_turn` meets its contract: a block coded beside its neighbours in the rebuilt plane. Assumes nothing.
 use mathlib.Core.Path.{refl, ◌∙◌}
-use Rattle.macroblock4.proofs.Coding.{block_coded, turn_coded}
+use Rattle.picture.specs.Plane.{gathered}
+use Rattle.macroblock4.proofs.Coding.{BlockCoded, block_coded, turn_coded}
 use Rattle.macroblock4.proofs.code.code_turn.Goals as goal
+use Rattle.macroblock4.proofs.code.code_turn.Goals.{After-store_block}
+
+coded_at : (c : After-store_block)
+    → BlockCoded c.args.layout c.args.quantizer.qp c.args.plane.now c.args.m c.args.b (gathered 4 c.args.layout c.args.m c.args.b c.args.rebuilt.now) c.coded-mode.result
+coded_at c = block_coded _ _ c.args.plane.now _ _ c.args.rebuilt.now c.coded-mode.result c.flags-flags.ensures c.gather-neighbours.ensures c.read_block-samples.ensures c.coded-mode.ensures
 
 pub returns-clause-mode_value : goal.returns-clause-mode_value
-returns-clause-mode_value c =
-    let a = c.args in
-    (block_coded _ _ a.plane.now _ _ a.rebuilt.now c.coded-block.result c.flags-flags.ensures c.gather-neighbours.ensures c.read_block-samples.ensures
-    c.coded-block.ensures).mode
+returns-clause-mode_value c = (coded_at (goal.at.returns-clause-mode_value c).After-store_block).mode
 
 pub returns-clause-cost_value : goal.returns-clause-cost_value
-returns-clause-cost_value c =
-    let a = c.args in
-    (block_coded _ _ a.plane.now _ _ a.rebuilt.now c.coded-block.result c.flags-flags.ensures c.gather-neighbours.ensures c.read_block-samples.ensures
-    c.coded-block.ensures).sad
+returns-clause-cost_value c = (coded_at (goal.at.returns-clause-cost_value c).After-store_block).sad
 
 pub returns-clause-levels_after : goal.returns-clause-levels_after
-returns-clause-levels_after c =
-    let a = c.args in
-    c.copy.ensures
-    ∙ (block_coded _ _ a.plane.now _ _ a.rebuilt.now c.coded-block.result c.flags-flags.ensures c.gather-neighbours.ensures c.read_block-samples.ensures
-    c.coded-block.ensures).levels
+returns-clause-levels_after c = c.copy_from_slice.ensures.after ∙ (coded_at (goal.at.returns-clause-levels_after c).After-store_block).levels
 
 pub returns-clause-rebuilt_after : goal.returns-clause-rebuilt_after
 returns-clause-rebuilt_after c =
     let a = c.args in
-    let x = block_coded _ _ a.plane.now _ _ a.rebuilt.now c.coded-block.result c.flags-flags.ensures c.gather-neighbours.ensures c.read_block-samples.ensures
-    c.coded-block.ensures in
-    turn_coded _ _ a.plane.now _ _ a.rebuilt.now c.coded-block.result x c.store_block.ensures refl
+    turn_coded _ _ a.plane.now _ _ a.rebuilt.now c.coded-mode.result (coded_at (goal.at.returns-clause-rebuilt_after c).After-store_block) c.store_block.ensures refl

@@ -1,15 +1,14 @@
--- `macroblock4::content::first_mode` meets its contract: a loop that leaves at the first block whose mode does not hold. Assumes nothing.
-use mathlib.Core.Path.{sym, ap, ◌∙◌}
-use mathlib.Core.Bool.{not}
-use Rattle.lists.proofs.First.{searching_here, searching_done}
-use Rattle.macroblock4.specs.Content.{first_mode}
+-- `macroblock4::content::first_mode` meets its contract: the first block whose mode does not hold. Assumes nothing.
+use Rattle.std.proofs.Common.{rules, tests, ◌≡◌, true, false, not}
+use Rattle.std.proofs.lemmas.Iterator.{first_from_Range}
+use Rattle.lists.proofs.First.{first_found}
+use Rattle.macroblock4.specs.Content.{mode_holds, first_mode}
 use Rattle.macroblock4.proofs.content.first_mode.Goals as goal
-
-pub returns-then-not-mode_holds : goal.returns-then-not-mode_holds
-unfolding first_mode
-returns-then-not-mode_holds c =
-    sym (searching_here _ c.loop-b.invariant c.loop-b-test.true (ap not (sym c.mode_holds.ensures ∙ c.if-not-mode_holds.true)))
 
 pub returns : goal.returns
 unfolding first_mode
-returns c = sym (searching_done _ c.loop-b.invariant c.loop-b-test.false)
+returns c =
+    let a = c.args in
+    first_found (λ b. not (mode_holds a.layout a.m a.part.now b)) 16 c.find.result
+    (first_from_Range _ _ _ _ (λ b. not (mode_holds a.layout a.m a.part.now b) ≡ true) (λ b. not (mode_holds a.layout a.m a.part.now b) ≡ false) c.find.ensures.ran
+    (λ x q k. search (rules, tests)) (λ x q k. search (rules, tests)))

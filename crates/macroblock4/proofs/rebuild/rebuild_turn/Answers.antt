@@ -21,7 +21,7 @@ fill-requires c =
 
 pub samples-samples-requires : goal.samples-samples-requires
 samples-samples-requires c =
-    subst (Each 32768) (sym c.rescaled.ensures) (numbers_fit c.args.part.now c.args.b c.requires.b_value.1)
+    subst (Each 32768) (sym c.rescaled.ensures) (numbers_fit c.args.quantized.part.now c.args.b c.requires.b_value.1)
 
 pub returns : goal.returns
 returns c =
@@ -31,11 +31,11 @@ returns c =
     let own : (k : ℕ) → Fits w8 (get_or a.own.now k 0) = search rules in
     let bytes = shown_bytes a.layout a.m a.b a.own.now a.plane.now (bytes_known a.own.now own) (bytes_known a.plane.now c.type_inv.plane) _ _
     c.gather_over-neighbours.ensures c.fill.ensures in
-    let made : c.if-all_zero.samples ≡ rebuilt_samples p (rescaled_in a.part.now a.b) =
+    let made : c.if-all_zero.samples ≡ rebuilt_samples p (rescaled_in a.quantized.part.now a.b) =
     elim c.if-all_zero.branch [
-      | then-all_zero w ↦ w.samples-is ∙ zero_samples a.part.now a.b (c.all_zero.ensures.0 w.if-all_zero.true) _ sixteen bytes
+      | then-all_zero w ↦ w.samples-is ∙ zero_samples a.quantized.part.now a.b (c.all_zero.ensures.0 w.if-all_zero.true) _ sixteen bytes
       | else-all_zero w ↦ w.samples-is ∙ w.samples-samples.ensures ∙ ap (rebuilt_samples p) w.rescaled.ensures
     ] in
     let stores = c.store_at.ensures ∙ (λ i. stored 4 16 (4 * c.column_inside-x.ensures.0 i) (4 * c.row_inside-y.ensures.0 i) c.if-all_zero.samples a.own.now) in
-    block_made c.requires.among.0 a.part.now a.own.now a.plane.now c.requires.among.3 c.requires.among.2 c.flags-flags.ensures c.gather_over-neighbours.ensures
+    block_made c.requires.among.0 a.quantized.part.now a.own.now a.plane.now c.requires.among.2 c.requires.among.1 c.flags-flags.ensures c.gather_over-neighbours.ensures
     c.mode-mode.ensures c.fill.ensures made stores

@@ -1,14 +1,8 @@
-use Rattle.std.proofs.Common.{◌+◌, ◌-◌, ◌*◌, get_or, arith, rules}
-use Rattle.lists.proofs.Tab.{Filling, filling_none, filling_more, filling_done}
+use Rattle.std.proofs.Common.{◌+◌, ◌*◌, get_or, rules}
+use Rattle.lists.proofs.Made.{made_tab}
 use Rattle.octets.specs.Modes.{paired, packed}
 use Rattle.octets.proofs.inner.packed.Goals as goal
 
-pub loop-k-init : goal.loop-k-init
-loop-k-init c = filling_none _ _ (search rules)
-
-pub loop-k-preserved : goal.loop-k-preserved
-loop-k-preserved c = filling_more _ _ c.loop-k.invariant (omega arith) c.pack.ensures
-
 pub returns : goal.returns
 unfolding packed
-returns c = filling_done _ _ c.loop-k.invariant (omega arith)
+returns c = made_tab _ _ _ 8 (λ k. paired (get_or c.args.modes (2 * k) 0) (get_or c.args.modes (2 * k + 1) 0)) (λ k y q h a. search rules) c.from_fn.ensures.items

@@ -1,12 +1,9 @@
-use Rattle.std.proofs.Common.{◌≡◌, ◌-◌, ◌≤◌, length, take, ap, ◌∙◌, arith, take_all, rules}
-use Rattle.octets.specs.Sum.{sum_of, record_sum}
-use Rattle.octets.proofs.Sums.{sum_take}
+use Rattle.std.proofs.Common.{◌≡◌, ◌+◌, ◌%◌, ◌∙◌, rules}
+use Rattle.std.specs.List.{fold}
+use Rattle.octets.proofs.Sums.{sum_folded}
 use Rattle.octets.proofs.inner.sum.Goals as goal
 
-pub loop-i-init : goal.loop-i-init
-unfolding sum_of
-loop-i-init c = search rules
-
-pub loop-i-preserved : goal.loop-i-preserved
-loop-i-preserved c =
-    omega (arith, c.wrapping_add_u16-sum.ensures, sum_take c.args.bytes.now c.loop-i.i c.loop-i-test.true)
+pub returns : goal.returns
+returns c =
+    let folded : c.fold.result ≡ fold (λ s b. (s + b) % 65536) 0 c.args.bytes.now = search rules in
+    folded ∙ sum_folded c.args.bytes.now

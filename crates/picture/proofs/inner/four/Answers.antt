@@ -1,14 +1,15 @@
-use mathlib.Core.Path.{refl}
+-- `picture::inner::four` meets its contract: sample k at place k, or none. Assumes nothing.
+use Prim.Native.Nat.{◌+◌, ◌*◌, ◌-◌}
 use borrow.Author.Rules.{rules}
+use lib.ListN.{get_or}
 use Rattle.lists.specs.Tab.{tab}
-use Rattle.lists.proofs.Tab.{filling_none, filling_more}
+use Rattle.lists.proofs.Made.{made_tab}
 use Rattle.picture.proofs.inner.four.Goals as goal
 
-pub loop-k-init : goal.loop-k-init
-loop-k-init c = filling_none _ _ refl
-
-pub loop-k-preserved : goal.loop-k-preserved
-loop-k-preserved c = filling_more _ _ c.loop-k.invariant (search rules) refl
+pub returns-then-present : goal.returns-then-present
+returns-then-present c =
+    let a = c.args in
+    rw c.if-present.true (made_tab _ _ _ 4 (λ k. get_or a.rows.samples.now (a.rows.at - a.back + k * a.step) 0) (λ k y q h p. search rules) c.from_fn.ensures.items)
 
 pub returns-else-present : goal.returns-else-present
 unfolding tab

@@ -10,4 +10,4 @@ returns-then-has_above c =
 
 pub returns-else-has_above : goal.returns-else-has_above
 returns-else-has_above c =
-    rw (corner_is (among_four c.requires), sym c.has_above.ensures ∙ c.if-has_above.false)
+    rw (corner_is (among_four c.requires), sym c.has_above.ensures ∙ c.if-has_above.false) c.if-has_above.false

@@ -14,6 +14,3 @@ returns-then-column-layout c = let is = upper_right_is (among_four c.requires) i
 
 pub returns-else-column-layout : goal.returns-else-column-layout
 returns-else-column-layout c = let is = upper_right_is (among_four c.requires) in grind (arith, nat_tests, is)
-
-pub returns-else-row_in_slice-gt0 : goal.returns-else-row_in_slice-gt0
-returns-else-row_in_slice-gt0 c = let is = upper_right_is (among_four c.requires) in grind (arith, nat_tests, is)

@@ -1,27 +1,22 @@
-use mathlib.Core.Path.{◌≡◌, refl}
+use mathlib.Core.Path.{◌≡◌, refl, ◌∙◌}
 use Prim.Native.Nat.{◌*◌}
 use native.Mathlib.Omega.{arith}
 use Rattle.lists.specs.Tab.{grid}
-use Rattle.lists.proofs.Stores.{storing_none}
 use Rattle.picture.specs.Plane.{stride}
 use Rattle.picture.specs.Whole.{whole_column, whole_row}
 use Rattle.picture.proofs.Plane.{block_by}
-use Rattle.picture.proofs.Rows.{row_in, rows_room, row_read, stored_in_turn}
+use Rattle.picture.proofs.Rows.{no_rows, row_at, row_read, stored_in_turn}
 use Rattle.picture.proofs.inner.read_whole.Invariants.{rule}
 use Rattle.picture.proofs.inner.read_whole.Goals as goal
 
 pub loop-y-init : goal.loop-y-init
-loop-y-init c =
-    let z : 0 * c.args.s ≡ 0 = omega arith in
-    (omega arith, rw z (storing_none _ _ (c.args.s * c.args.s) _))
+loop-y-init c = (omega arith, no_rows _ _ (c.args.s * c.args.s) c.args.s _)
 
 -- the row that is read lies in the plane, and its place in what is lent
 pub copy_row-requires : goal.copy_row-requires
 copy_row-requires c =
-    let p = c.requires.among in
-    let r = rw (← c.whole_place-first.ensures) at (row_in p.0 c.args.s p.1 p.2 c.loop-y.y c.loop-y-test.true) in
-    let t = rows_room c.args.s c.loop-y-test.true in
-    (omega (arith, r, c.requires.plane_len.0), omega (arith, t, c.loop-y.invariant.1.long, c.requires.plane_len.1))
+    let r = c.requires in
+    row_at r.among.0 c.args.s r.among.1 r.among.2 c.whole_place-first.ensures r.plane_len.0 (c.loop-y.invariant.1.long ∙ r.plane_len.1) c.loop-y.y c.loop-y-test.true
 
 pub loop-y-preserved : goal.loop-y-preserved
 loop-y-preserved c =

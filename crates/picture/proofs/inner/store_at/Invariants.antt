@@ -10,4 +10,4 @@ abbrev pub goes : (stride at : ℕ) → ℕ → ℕ
 goes stride at k = at + k / 4 * stride + k % 4
 
 abbrev pub invariant-loop-k : goal.invariant-loop-k
-invariant-loop-k l = Storing (goes l.stride l.at) (λ i. get_or l.block i 0) 16 l.initial.plane l.plane l.k
+invariant-loop-k l = Storing (goes l.stride l.at) (λ i. get_or l.sample-items i 0) 16 l.initial.plane l.plane l.k

@@ -1,25 +1,22 @@
-use mathlib.Core.Path.{◌≡◌}
+use mathlib.Core.Path.{◌≡◌, ◌∙◌}
 use Prim.Native.Nat.{◌*◌}
 use native.Mathlib.Omega.{arith}
-use Rattle.lists.proofs.Stores.{storing_none, storing_done}
+use Rattle.lists.proofs.Stores.{storing_done}
 use Rattle.picture.specs.Plane.{stride}
 use Rattle.picture.specs.Whole.{whole_column, whole_row}
 use Rattle.picture.proofs.Plane.{stored_by}
-use Rattle.picture.proofs.Rows.{row_in, rows_room, row_stored}
+use Rattle.picture.proofs.Rows.{no_rows, row_at, row_stored}
 use Rattle.picture.proofs.inner.store_whole.Goals as goal
 
 pub loop-y-init : goal.loop-y-init
-loop-y-init c =
-    let z : 0 * c.args.s ≡ 0 = omega arith in
-    (omega arith, rw z (storing_none _ _ (c.args.s * c.args.s) _))
+loop-y-init c = (omega arith, no_rows _ _ (c.args.s * c.args.s) c.args.s _)
 
 -- the row that is stored to lies in the plane, and the one that is read in what is lent
 pub copy_row-requires : goal.copy_row-requires
 copy_row-requires c =
-    let p = c.requires.among in
-    let r = rw (← c.whole_place-first.ensures) at (row_in p.0 c.args.s p.1 p.2 c.loop-y.y c.loop-y-test.true) in
-    let t = rows_room c.args.s c.loop-y-test.true in
-    (omega (arith, t, c.requires.plane_len.1), omega (arith, r, c.loop-y.invariant.1.long, c.requires.plane_len.0))
+    let r = c.requires in
+    let at = row_at r.among.0 c.args.s r.among.1 r.among.2 c.whole_place-first.ensures (c.loop-y.invariant.1.long ∙ r.plane_len.0) r.plane_len.1 c.loop-y.y c.loop-y-test.true in
+    (at.1, at.0)
 
 pub loop-y-preserved : goal.loop-y-preserved
 loop-y-preserved c =

@@ -28,17 +28,9 @@ loop-m-preserved c =
     let e = c.code_macroblock-used.ensures in
     file_more _ _ _ _ _ c.requires.sound.0.some c.loop-m.invariant c.loop-m-test.true refl e.value e.file_after e.rebuilt_after
 
-pub returns-clause-value : goal.returns-clause-value
-returns-clause-value c =
+pub returns : goal.returns
+returns c =
     let a = c.args in
-    (file_done a.layout a.quantizer.qp a.plane.now a.rebuilt.now a.file.now c.write_head-place.ensures.file_after c.loop-m.invariant c.loop-m-test.false).0
-
-pub returns-clause-file_after : goal.returns-clause-file_after
-returns-clause-file_after c =
-    let a = c.args in
-    (file_done a.layout a.quantizer.qp a.plane.now a.rebuilt.now a.file.now c.write_head-place.ensures.file_after c.loop-m.invariant c.loop-m-test.false).1
-
-pub returns-clause-rebuilt_after : goal.returns-clause-rebuilt_after
-returns-clause-rebuilt_after c =
-    let a = c.args in
-    (file_done a.layout a.quantizer.qp a.plane.now a.rebuilt.now a.file.now c.write_head-place.ensures.file_after c.loop-m.invariant c.loop-m-test.false).2
+    let d =
+    file_done a.layout a.quantizer.qp a.plane.now a.rebuilt.now a.file.now c.write_head-place.ensures.file_after c.loop-m.invariant c.loop-m-test.false in
+    record { value = d.0; file_after = d.1; rebuilt_after = d.2 }

@@ -1,4 +1,5 @@
 -- `plane::content::contents` meets its contract: a loop that leaves at the first macroblock whose records' content is not fine. Assumes nothing.
+use Rattle.std.proofs.lemmas.Result.{err_from_is_err_and}
 use mathlib.Core.Path.{sym, ◌∙◌}
 use Prim.Native.Nat.{◌*◌}
 use native.Mathlib.Omega.{arith}
@@ -12,11 +13,12 @@ loop-m-init c =
     let a = c.args in
     (omega arith, walking_none a.layout a.file.now a.start, chain_none _)
 
-pub returns-in-Refused : goal.returns-in-Refused
-returns-in-Refused c =
+pub returns-in_err-test_records : goal.returns-in_err-test_records
+returns-in_err-test_records c =
     let a = c.args in
-    sym (chain_stop (macroblock_tests a.layout a.start a.file.now) (a.layout.width * a.layout.height) c.loop-m.m _ c.loop-m-test.true c.loop-m.invariant.2
-    (sym c.in-Refused.ensures))
+    let p = err_from_is_err_and c.from_residual.result c.from_residual.ensures.1 in
+    rw (p.1, p.2) (sym (chain_stop (macroblock_tests a.layout a.start a.file.now) (a.layout.width * a.layout.height) c.loop-m.m _ c.loop-m-test.true c.loop-m.invariant.2
+    (sym c.in_err-test_records.ensures)))
 
 pub next_place-place-requires : goal.next_place-place-requires
 next_place-place-requires c =
@@ -28,5 +30,5 @@ loop-m-preserved c =
     let a = c.args in (
       omega (arith, c.loop-m-test.true),
       c.next_place-place.ensures ∙ next_is a.layout a.file.now a.start c.loop-m.m c.loop-m.invariant.1 c.requires.1,
-      chain_one (macroblock_tests a.layout a.start a.file.now) c.loop-m.m c.loop-m.invariant.2 ∙ sym c.in-Done.ensures,
+      chain_one (macroblock_tests a.layout a.start a.file.now) c.loop-m.m c.loop-m.invariant.2 ∙ sym c.in_ok-test_records.ensures,
     )

@@ -1,4 +1,5 @@
 -- `plane::content::test_records` meets its contract: luma's content, and in a colour file then chroma's. Assumes nothing.
+use Rattle.std.proofs.lemmas.Result.{err_from_is_err_and}
 use mathlib.Core.Path.{◌≡◌, sym, ap, ◌∙◌}
 use mathlib.Core.Bool.{Bool}
 use mathlib.Core.List.{List}
@@ -40,15 +41,16 @@ test_macroblock-requires c =
     (c.requires.0, luma_long a.layout a.file.now a.start a.m c.requires.0.macroblock c.requires.1.fine c.requires.1.at c.length_from.ensures)
 
 pub test_chroma_record-requires-clause-m_value : goal.test_chroma_record-requires-clause-m_value
-test_chroma_record-requires-clause-m_value c = sym (tested c.requires.0.macroblock c.requires.1 c.length_from.ensures c.in-Done.ensures)
+test_chroma_record-requires-clause-m_value c = sym (tested c.requires.0.macroblock c.requires.1 c.length_from.ensures c.in_ok-test_macroblock.ensures)
 
-pub returns-in-Refused : goal.returns-in-Refused
-returns-in-Refused c =
+pub returns-in_err-test_macroblock : goal.returns-in_err-test_macroblock
+returns-in_err-test_macroblock c =
     let a = c.args in
-    sym (tests_refused a.layout a.file.now a.start a.m (sym (tested c.requires.0.macroblock c.requires.1 c.length_from.ensures c.in-Refused.ensures)))
+    let p = err_from_is_err_and c.from_residual.result c.from_residual.ensures.1 in
+    rw (p.1, p.2) (sym (tests_refused a.layout a.file.now a.start a.m (sym (tested c.requires.0.macroblock c.requires.1 c.length_from.ensures c.in_err-test_macroblock.ensures))))
 
-pub returns-else-colour : goal.returns-else-colour
-returns-else-colour c =
+pub returns : goal.returns
+returns c =
     let a = c.args in
     sym (tests_mono a.layout a.file.now a.start a.m (sym c.requires.1.told ∙ c.if-colour.false)
-    ∙ sym (tested c.requires.0.macroblock c.requires.1 c.length_from.ensures c.in-Done.ensures))
+    ∙ sym (tested c.requires.0.macroblock c.requires.1 c.length_from.ensures c.in_ok-test_macroblock.ensures))

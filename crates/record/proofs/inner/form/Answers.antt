@@ -1,20 +1,25 @@
 -- `record::inner::form` meets its contract: cut mark, mark, cut rest, number and sum, in that order. Assumes nothing.
 use mathlib.Core.Path.{◌≡◌, sym, ap, ◌∙◌}
-use mathlib.Core.Bool.{Bool, true}
+use mathlib.Core.Bool.{Bool, true, false, cond}
 use mathlib.Core.List.{List}
 use Prim.Native.Nat.{ℕ, ◌+◌, ◌-◌, ◌≤◌}
 use native.Mathlib.Omega.{arith}
 use lib.ListN.{length, take, drop, length-drop}
-use lib.Seq.{length-take-le}
 use Rattle.record.specs.Kinds.{kind_of, record_length, as_expected}
 use Rattle.octets.specs.Numbers.{number_at}
 use Rattle.record.specs.Records.{number_in, length_in, first_in}
 use Rattle.octets.specs.Sum.{sum_holds}
-use Rattle.record.specs.declared.Form.TheVariants.{Fine}
 use Rattle.record.proofs.Forms.{cut_mark, mark_wrong, cut_rest, number_wrong, sum_wrong, form_fine}
 use Rattle.record.proofs.Marks.{length_known_law, length_there}
 use Rattle.record.proofs.Walks.{mark_drop, number_drop}
 use Rattle.record.proofs.inner.form.Goals as goal
+use Rattle.std.specs.Prelude.{Ok, Err}
+use Rattle.record.specs.Faults.{form_of}
+use Rattle.record.specs.declared.Expected.{Expected}
+use Rattle.refusal.specs.declared.Fault.TheVariants.{Sum}
+
+number_is : (file : List ℕ) (place : ℕ) {n : ℕ} → n ≡ number_at (place + 2) file → n ≡ number_in (drop place file)
+number_is file place e = e ∙ sym (number_drop file place 2)
 
 -- ---- what has been found out, stage by stage
 module _ (file : List ℕ) (place : ℕ) {rest : ℕ} (left : rest ≡ length file - place) where
@@ -54,12 +59,21 @@ module _ (file : List ℕ) (place : ℕ) {rest : ℕ} (left : rest ≡ length fi
             let z : place + long - place ≡ length_in (drop place file) = omega (arith, long_is) in
             ap (λ (n : ℕ). sum_holds (take n (drop place file))) (sym z) ∙ sym h ∙ e
 
-number_is : (file : List ℕ) (place : ℕ) {n : ℕ} → n ≡ number_at (place + 2) file → n ≡ number_in (drop place file)
-number_is file place e = e ∙ sym (number_drop file place 2)
-
-part_long : (file : List ℕ) (place long : ℕ) → 6 ≤ long → place + long ≤ length file → 2 ≤ length (take (place + long - place) (drop place file))
-part_long file place long six h =
-    rw (length-take-le (place + long - place) (drop place file) (omega (arith, length-drop place file))) (omega arith)
+        -- the sum is tested last: by it the form is the fault or the length
+        by_sum : (expected : Expected) {held : Bool}
+            → held ≡ as_expected expected.chroma (kind_of mark)
+            → held ≡ true
+            → {number : ℕ}
+            → number ≡ number_at (place + 2) file
+            → number ≡ expected.number
+            → {sum : Bool}
+            → sum ≡ sum_holds (take (place + long - place) (drop place file))
+            → (b : Bool)
+            → sum ≡ b
+            → form_of expected (drop place file) ≡ cond b (Ok long) (Err Sum)
+        by_sum expected h e n own s false f = sum_wrong expected (drop place file) two (expected_is expected.chroma h e) room (sym (number_is file place n) ∙ own) (summed s f)
+        by_sum expected h e n own s true f =
+            form_fine expected (drop place file) two (expected_is expected.chroma h e) room (sym (number_is file place n) ∙ own) (summed s f) ∙ ap Ok (sym long_is)
 
 -- ---- the goals
 pub returns-then-rest-lt2 : goal.returns-then-rest-lt2
@@ -95,8 +109,8 @@ number_at-requires c =
     c.is_expected.ensures c.if-not-is_expected.false in
     omega (arith, h.0, h.1)
 
-pub returns-then-number_at-expected : goal.returns-then-number_at-expected
-returns-then-number_at-expected c =
+pub returns-then-from-expected : goal.returns-then-from-expected
+returns-then-from-expected c =
     let a = c.args in
     let l = c.left-rest.ensures in
     let t = c.if-rest-lt2.false in
@@ -105,44 +119,21 @@ returns-then-number_at-expected c =
     number_wrong a.expected (drop a.place a.file.now) (two a.file.now a.place l t m)
     (expected_is a.file.now a.place l t m a.expected.chroma c.is_expected.ensures c.if-not-is_expected.false)
     (room a.file.now a.place l t m c.record_length-long.ensures c.if-rest-long.false)
-    (λ e. c.if-number_at-expected.true (number_is a.file.now a.place c.number_at.ensures ∙ e))
+    (λ e. c.if-from-expected.true (number_is a.file.now a.place (c.from.ensures ∙ c.number_at.ensures) ∙ e))
     )
-
-pub sum_holds-requires : goal.sum_holds-requires
-sum_holds-requires c =
-    let a = c.args in
-    let h =
-    inside a.file.now a.place c.left-rest.ensures c.if-rest-lt2.false c.number_at-mark.ensures c.record_length-long.ensures c.if-rest-long.false a.expected.chroma
-    c.is_expected.ensures c.if-not-is_expected.false in
-    part_long a.file.now a.place c.record_length-long.result h.0 h.1
 
 pub returns-then-not-sum_holds : goal.returns-then-not-sum_holds
 returns-then-not-sum_holds c =
     let a = c.args in
-    let l = c.left-rest.ensures in
-    let t = c.if-rest-lt2.false in
-    let m = c.number_at-mark.ensures in
-    let long = c.record_length-long.ensures in
-    let enough = c.if-rest-long.false in
     sym (
-    sum_wrong a.expected (drop a.place a.file.now) (two a.file.now a.place l t m)
-    (expected_is a.file.now a.place l t m a.expected.chroma c.is_expected.ensures c.if-not-is_expected.false)
-    (room a.file.now a.place l t m long enough) (sym (number_is a.file.now a.place c.number_at.ensures) ∙ c.if-number_at-expected.false)
-    (summed a.file.now a.place l t m long enough c.sum_holds.ensures c.if-not-sum_holds.true)
+    by_sum a.file.now a.place c.left-rest.ensures c.if-rest-lt2.false c.number_at-mark.ensures c.record_length-long.ensures c.if-rest-long.false a.expected c.is_expected.ensures c.if-not-is_expected.false
+    (c.from.ensures ∙ c.number_at.ensures) c.if-from-expected.false c.sum_holds.ensures false c.if-not-sum_holds.true
     )
 
 pub returns : goal.returns
 returns c =
     let a = c.args in
-    let l = c.left-rest.ensures in
-    let t = c.if-rest-lt2.false in
-    let m = c.number_at-mark.ensures in
-    let long = c.record_length-long.ensures in
-    let enough = c.if-rest-long.false in
     sym (
-    form_fine a.expected (drop a.place a.file.now) (two a.file.now a.place l t m)
-    (expected_is a.file.now a.place l t m a.expected.chroma c.is_expected.ensures c.if-not-is_expected.false)
-    (room a.file.now a.place l t m long enough) (sym (number_is a.file.now a.place c.number_at.ensures) ∙ c.if-number_at-expected.false)
-    (summed a.file.now a.place l t m long enough c.sum_holds.ensures c.if-not-sum_holds.false)
-    ∙ ap Fine (sym (long_is a.file.now a.place l t m long))
+    by_sum a.file.now a.place c.left-rest.ensures c.if-rest-lt2.false c.number_at-mark.ensures c.record_length-long.ensures c.if-rest-long.false a.expected c.is_expected.ensures c.if-not-is_expected.false
+    (c.from.ensures ∙ c.number_at.ensures) c.if-from-expected.false c.sum_holds.ensures true c.if-not-sum_holds.false
     )

@@ -1,12 +1,7 @@
-use mathlib.Core.Path.{refl, ◌∙◌}
-use Rattle.lists.proofs.Tab.{filling_none, filling_more}
-use mir.Facts.{to_z-of_z}
-use mir.Syntax.{w32}
-use borrow.Author.Rules.{rules}
+use Rattle.std.proofs.Common.{rules, ◌*◌}
+use Rattle.lists.proofs.Made.{made_tab}
+use Rattle.recorded.specs.Numbers.{of_signed}
 use Rattle.recorded.proofs.inner.list_of.Goals as goal
 
-pub loop-k-init : goal.loop-k-init
-loop-k-init c = filling_none _ _ refl
-
-pub loop-k-preserved : goal.loop-k-preserved
-loop-k-preserved c = filling_more _ _ c.loop-k.invariant (search rules) (to_z-of_z {w = w32} (record { sfits = c.four_signed.type_inv }) ∙ c.four_signed.ensures)
+pub returns : goal.returns
+returns c = made_tab _ _ _ 17 (λ k. of_signed (4 * k) c.args.part.now) (λ k y q h a. search rules) c.from_fn.ensures.items

@@ -1,13 +1,11 @@
--- `residual::inner::in_order` meets its contract: a fill. Assumes nothing.
-use mir.Syntax.{w32}
-use mir.ValLaws.{to_z-of_z}
-use native.Mathlib.Omega.{arith}
-use Rattle.lists.proofs.Tab.{filling_none, filling_more}
+-- `residual::inner::in_order` meets its contract: number k from the place that the table names. Assumes nothing.
 use borrow.Author.Rules.{rules}
+use lib.IntN.{pos}
+use lib.ListN.{get_or}
+use Rattle.lists.proofs.Made.{made_tab}
 use Rattle.residual.proofs.inner.in_order.Goals as goal
 
-pub loop-k-preserved : goal.loop-k-preserved
-loop-k-preserved c = filling_more 16 _ c.loop-k.invariant (omega arith) (to_z-of_z w32 _ (search rules))
-
-pub loop-k-init : goal.loop-k-init
-loop-k-init c = filling_none 16 _ (search rules)
+pub returns : goal.returns
+returns c =
+    let a = c.args in
+    made_tab _ _ _ 16 (λ k. get_or a.l.now (get_or a.table k 0) (pos 0)) (λ k y q h p. search rules) c.from_fn.ensures.items

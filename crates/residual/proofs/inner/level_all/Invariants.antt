@@ -1,5 +1,5 @@
 -- `residual::inner::level_all` meets its contract: a store in each place, of the level of the number there. Assumes nothing.
-use Prim.Native.Nat.{◌-◌, ◌^◌}
+use Prim.Native.Nat.{◌^◌}
 use lib.IntN.{pos}
 use lib.ListN.{length, get_or}
 use Rattle.lists.proofs.Stores.{Storing}
@@ -8,6 +8,3 @@ use Rattle.residual.proofs.inner.level_all.Given as goal
 
 abbrev pub invariant-loop-k : goal.invariant-loop-k
 invariant-loop-k l = Storing (λ i. i) (λ i. level_by (get_or l.mf i 0) l.f (2 ^ l.q) (get_or l.initial.numbers i (pos 0))) (length l.initial.numbers) l.initial.numbers l.numbers l.k
-
-abbrev pub decreases-loop-k : goal.decreases-loop-k
-decreases-loop-k l = length l.initial.numbers - l.k

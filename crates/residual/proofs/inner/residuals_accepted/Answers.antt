@@ -1,20 +1,35 @@
 -- `residual::inner::residuals_accepted` meets its contract: each verdict by its law. Assumes nothing.
-use mathlib.Core.Path.{refl, sym, ◌∙◌}
+use mathlib.Core.Path.{refl, sym, ap, ◌∙◌}
+use Prim.Native.Nat.{ℕ}
 use native.Mathlib.Omega.{arith}
 use lib.ListN.{length}
 use mir.Syntax.{w32}
 use mir.ValLaws.{to_z-of_z}
-use Rattle.lists.proofs.Chain.{written_passed}
+use Rattle.lists.specs.Chain.{stop}
+use Rattle.lists.specs.First.{found}
+use Rattle.lists.proofs.Chain.{written_passed, written_refused}
+use Rattle.lists.proofs.First.{found_some, found_none}
 use Rattle.whole.specs.Range.{first_outside}
+use Rattle.refusal.specs.declared.Refusal.TheVariants.{Residual}
 use Rattle.refusal.proofs.Same.{says}
-use Rattle.residual.proofs.Entry.{accepted_legal, residuals_fine}
+use Rattle.residual.proofs.Entry.{accepted_legal, residuals_outside, residuals_fine}
 use Rattle.residual.proofs.inner.residuals_accepted.Goals as goal
 
-pub returns-else-place-n : goal.returns-else-place-n
-returns-else-place-n c =
+pub returns-in-Some : goal.returns-in-Some
+returns-in-Some c =
     let a = c.args in
-    let t = accepted_legal a.n a.qp (length a.numbers.now) a.room c.in-Legal.ensures refl in
+    let t = accepted_legal a.n a.qp (length a.numbers.now) a.room c.in_ok-quantizer.ensures refl in
     -- the scan's limits are read back from their bits
-    let is = c.first_outside-place.ensures ∙ (λ i. first_outside (to_z-of_z w32 a.low c.ranges.low i) (to_z-of_z w32 a.high c.ranges.high i) a.numbers.now) in
-    let e = residuals_fine a.n a.low a.high a.qp a.numbers.now a.room t.passed t.long (omega (arith, is, c.if-place-n.false)) in
+    let looked = c.first_outside.ensures ∙ (λ i. found (length a.numbers.now) (first_outside (to_z-of_z w32 a.low c.ranges.low i) (to_z-of_z w32 a.high c.ranges.high i) a.numbers.now)) in
+    let is = found_some (length a.numbers.now) (first_outside a.low a.high a.numbers.now) (sym looked ∙ c.in-Some.is) in
+    let e = residuals_outside a.n a.low a.high a.qp a.numbers.now a.room t.passed (omega (arith, is.1, t.long)) in
+    record { says = says (ap (λ (k : ℕ). stop (Residual k)) is.0 ∙ sym e); value = written_refused a.qp e }
+
+pub returns : goal.returns
+returns c =
+    let a = c.args in
+    let t = accepted_legal a.n a.qp (length a.numbers.now) a.room c.in_ok-quantizer.ensures refl in
+    let looked = c.first_outside.ensures ∙ (λ i. found (length a.numbers.now) (first_outside (to_z-of_z w32 a.low c.ranges.low i) (to_z-of_z w32 a.high c.ranges.high i) a.numbers.now)) in
+    let none = found_none (length a.numbers.now) (first_outside a.low a.high a.numbers.now) (sym looked ∙ c.in_default.is) in
+    let e = residuals_fine a.n a.low a.high a.qp a.numbers.now a.room t.passed t.long (omega (arith, none, t.long)) in
     record { says = says (sym e); value = written_passed 0 e t.number }

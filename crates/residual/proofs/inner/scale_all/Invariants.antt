@@ -1,5 +1,4 @@
 -- `residual::inner::scale_all` meets its contract: a store in each place, of the number there rescaled. Assumes nothing.
-use Prim.Native.Nat.{◌-◌}
 use lib.IntN.{pos, ◌+ℤ◌, ◌*ℤ◌}
 use lib.ListN.{length, get_or}
 use Rattle.lists.proofs.Stores.{Storing}
@@ -9,6 +8,3 @@ use Rattle.residual.proofs.inner.scale_all.Given as goal
 abbrev pub invariant-loop-k : goal.invariant-loop-k
 invariant-loop-k l =
     Storing (λ i. i) (λ i. (get_or l.initial.numbers i (pos 0) *ℤ pos (get_or l.scale i 0) +ℤ pos l.round) >> l.shift) (length l.initial.numbers) l.initial.numbers l.numbers l.k
-
-abbrev pub decreases-loop-k : goal.decreases-loop-k
-decreases-loop-k l = length l.initial.numbers - l.k

@@ -1,9 +1,11 @@
 -- `residual_whole::coded::block_to_levels` meets its contract. Assumes nothing.
-use mathlib.Core.Path.{sym, ap, subst, ◌∙◌}
+use borrow.Author.Rules.{rules}
+use mathlib.Core.Path.{◌≡◌, sym, ap, subst, ◌∙◌}
 use mathlib.Core.List.{List}
 use native.Mathlib.Omega.{arith}
 use lib.IntN.{ℤ, pos}
-use lib.ListN.{get_or, drop}
+use lib.ListN.{length, get_or, drop, length-drop}
+use lib.Seq.{take_all}
 use mir.Syntax.{w32}
 use Rattle.whole.specs.Bounds.{Within}
 use Rattle.whole.proofs.Bound.{argument}
@@ -33,4 +35,7 @@ pub returns-clause-ac_after : goal.returns-clause-ac_after
 unfolding residual_in
 returns-clause-ac_after c =
     let l = c.lacking-residual.ensures.0 ∙ (λ i. residual_of (c.part-own.ensures i) (c.part.ensures i)) in
-    c.behind_first.ensures ∙ ap (drop 1) (c.in_zigzag-levels.ensures ∙ ap in_zigzag (c.quantized.ensures ∙ ap (quantized c.args.quantizer.qp) l))
+    let all = c.in_zigzag-levels.result in
+    let sixteen : length all ≡ 16 = search rules in
+    let behind : c.copy_from_slice.new.self ≡ drop 1 all = c.copy_from_slice.ensures.after ∙ take_all 15 (drop 1 all) (omega (arith, length-drop 1 all, sixteen)) in
+    behind ∙ ap (drop 1) (c.in_zigzag-levels.ensures ∙ ap in_zigzag (c.quantized.ensures ∙ ap (quantized c.args.quantizer.qp) l))

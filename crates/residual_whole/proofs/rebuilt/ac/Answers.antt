@@ -1,14 +1,13 @@
--- `residual_whole::rebuilt::ac` meets its contract: a fill whose place 0 stands at the start. Assumes nothing.
-use mathlib.Core.Path.{◌≡◌, refl, ap, ◌∙◌}
-use mathlib.Core.List.{List, ◌∷◌}
-use Prim.Native.Nat.{ℕ, ◌<◌}
-use native.Mathlib.Omega.{arith}
+-- `residual_whole::rebuilt::ac` meets its contract: place 0 is 0, and each other is read by the table of steps. Assumes nothing.
 use borrow.Author.Rules.{rules}
-use lib.IntN.{pos}
-use lib.ListN.{get_or, replicate}
-use mir.Syntax.{w32}
-use mir.ValLaws.{to_z-of_z}
-use Rattle.lists.proofs.Tab.{filling_none, filling_more, filling_done}
+use mathlib.Core.Path.{◌≡◌, sym, ap, ◌∙◌}
+use mathlib.Core.List.{List, ◌∷◌}
+use mathlib.Core.Logic.{⊎_elim}
+use Prim.Native.Nat.{ℕ, ◌+◌, ◌-◌, ◌*◌, ◌/◌, ◌<◌, zero-le}
+use native.Mathlib.Nat.{eq-or-lt_of_le}
+use lib.IntN.{ℤ, pos}
+use lib.ListN.{get_or}
+use Rattle.lists.proofs.Made.{made_tab}
 use Rattle.quantizer.specs.Tables.{step_of}
 use Rattle.quantizer.proofs.Tables.{zigzag_permutes}
 use Rattle.residual.specs.Order.{in_places}
@@ -16,26 +15,31 @@ use Rattle.residual_whole.specs.Rebuilt.{ac_in}
 use Rattle.residual_whole.proofs.Blocks.{square}
 use Rattle.residual_whole.proofs.Samples.{ac_step, step_some}
 use Rattle.residual_whole.proofs.rebuilt.ac.Goals as goal
+use Rattle.residual_whole.proofs.rebuilt.ac.Goals.{After-steps-steps}
 
-pub loop-place-init : goal.loop-place-init
-loop-place-init c = (omega arith, filling_more 16 _ {d = replicate 16 (pos 0)} (filling_none 16 _ refl) (omega arith) refl)
+-- the level of a raster place
+abbrev level_in : ℕ → List ℤ → ℕ → ℕ → ℤ
+level_in s levels b place = get_or (pos 0 ∷ ac_in s levels b) (step_of place) (pos 0)
 
-pub loop-place-preserved : goal.loop-place-preserved
-loop-place-preserved c =
+-- behind place 0: the step of a place, as it is read from the table, which is below 16
+read : (c : After-steps-steps) (k : ℕ) → k < 16 → 0 < k
+    → get_or c.args.levels.now (c.args.s * c.args.s / 16 + 15 * c.args.b - 1 + get_or c.steps-steps.result k 0) (pos 0) ≡ level_in c.args.s c.args.levels.now c.args.b k
+read c k h l =
     let a = c.args in
-    let place = c.loop-place.place in
-    let i = c.loop-place.invariant in
-    let h : place < 16 = omega arith in
-    -- the step of a place, as it is read from the table, which is below 16
-    let e : get_or c.steps-steps.result place 0 ≡ step_of place = ap (λ (t : List ℕ). get_or t place 0) c.steps-steps.ensures in
-    let below : get_or c.steps-steps.result place 0 < 16 = rw e (zigzag_permutes place h).step in (
-      omega arith,
-      filling_more 16 _ i.1 h
-          (to_z-of_z w32 _ (search rules)
-          ∙ ac_step a.s (square a.s c.requires.0).many a.levels.now a.b (get_or c.steps-steps.result place 0) (rw e (step_some place i.0 h)) below
-          ∙ ap (λ (k : ℕ). get_or (pos 0 ∷ ac_in a.s a.levels.now a.b) k (pos 0)) e),
-    )
+    let e : get_or c.steps-steps.result k 0 ≡ step_of k = ap (λ (t : List ℕ). get_or t k 0) c.steps-steps.ensures in
+    let below : get_or c.steps-steps.result k 0 < 16 = rw e (zigzag_permutes k h).step in
+    ac_step a.s (square a.s c.requires.0).many a.levels.now a.b (get_or c.steps-steps.result k 0) (rw e (step_some k l h)) below
+    ∙ ap (λ (j : ℕ). get_or (pos 0 ∷ ac_in a.s a.levels.now a.b) j (pos 0)) e
 
 pub returns : goal.returns
 unfolding in_places
-returns c = filling_done 16 _ c.loop-place.invariant.1 (omega arith)
+returns c =
+    let a = c.args in
+    let steps = goal.at.returns c in
+    made_tab _ _ _ 16 (level_in a.s a.levels.now a.b)
+    (λ k y q h p.
+    let first : k ≡ 0 → y ≡ pos 0 = λ e. search rules in
+    let further : 0 < k → y ≡ get_or a.levels.now (a.s * a.s / 16 + 15 * a.b - 1 + get_or c.steps-steps.result k 0) (pos 0) = λ l. search rules in (
+      search rules,
+      ⊎_elim (λ (z : 0 ≡ k). first (sym z) ∙ ap (level_in a.s a.levels.now a.b) z) (λ (l : 0 < k). further l ∙ read steps.After-steps-steps k h l) (eq-or-lt_of_le zero-le),
+    )) c.from_fn.ensures.items

@@ -2,7 +2,8 @@
 use mathlib.Core.Path.{◌≡◌, ap, ◌∙◌}
 use Prim.Native.Nat.{ℕ}
 use native.Mathlib.Omega.{arith}
-use Rattle.lists.specs.Tab.{tab}
+use borrow.Author.Rules.{rules}
+use lib.ListN.{replicate}
 use Rattle.sides.proofs.Masked.{mode_below_4, vertical_is, horizontal_is, dc_is, plane_is}
 use Rattle.sides.proofs.inner.fill.Goals as goal
 
@@ -17,7 +18,7 @@ returns-in-1 c =
 pub returns-in-2 : goal.returns-in-2
 returns-in-2 c =
     dc_is c.args.neighbours.now _ _ c.requires.1 c.in-2.is c.flag.ensures c.flag-in-2.ensures c.mean.ensures
-    (c.put_mean.ensures ∙ ap (λ (n : ℕ). tab n (λ k. c.mean.result)) c.requires.2)
+    (c.fill.ensures.after (λ y h. search rules) ∙ ap (λ (n : ℕ). replicate n c.mean.result) c.requires.2)
 
 pub returns-in_default : goal.returns-in_default
 returns-in_default c =

@@ -10,6 +10,7 @@ use lib.Seq.{get_or-take}
 use Rattle.lists.proofs.Tab.{squaring_none, squaring_more, squaring_done}
 use Rattle.intra4.specs.Rules.{row_of, vertical, horizontal}
 use Rattle.sides.proofs.inner.put_side.Goals as goal
+use Rattle.sides.proofs.inner.put_side.Goals.{then-above, else-above}
 
 module _ (n : ℕ) (side own : List ℕ) (e : take (length side) own ≡ side) (long : length side ≡ n) where
   own_at : (k : ℕ) → k < n → get_or own k 0 ≡ get_or side k 0
@@ -25,8 +26,10 @@ loop-y-init c = squaring_none _ _ (omega arith)
 
 pub loop-x-preserved : goal.loop-x-preserved
 loop-x-preserved c =
+    let place : c.if-above.out ≡ cond c.args.above c.loop-x.x c.loop-y.y =
+    elim c.if-above.branch [ then-above w ↦ rw w.if-above.true w.out-is | else-above w ↦ rw w.if-above.false w.out-is ] in
     squaring_more _ _ c.loop-x.invariant (omega arith) (omega arith)
-    (stored c.args.n c.args.side.now c.row_of-own.result c.row_of-own.ensures (omega arith) c.args.above (omega arith) (omega arith) c.one_of.ensures (search rules))
+    (stored c.args.n c.args.side.now c.row_of-own.result c.row_of-own.ensures (omega arith) c.args.above (omega arith) (omega arith) place (search rules))
 
 pub returns : goal.returns
 returns c = squaring_done _ _ c.loop-y.invariant (omega arith)

@@ -1,13 +1,13 @@
+-- `sides::rules::rises` meets its contract. Assumes nothing.
 use mathlib.Core.Path.{◌≡◌, sym, ap, subst, ◌∙◌}
 use mathlib.Core.List.{List}
 use Prim.Native.Nat.{ℕ, ◌≤◌}
-use native.Mathlib.Omega.{arith}
 use borrow.Author.Rules.{rules}
 use lib.IntN.{ℤ}
 use mir.Syntax.{w32}
 use mir.Val.{to_z, of_z}
 use Rattle.lists.specs.Tab.{tab}
-use Rattle.lists.proofs.Tab.{filling_none, filling_more, filling_done}
+use Rattle.lists.proofs.Made.{made_tab}
 use Rattle.whole.specs.Bounds.{Within, Each}
 use Rattle.whole.proofs.Bound.{argument}
 use Rattle.whole.proofs.Lists.{each_tab}
@@ -20,12 +20,7 @@ each n b {l} h w e =
     let q : l ≡ tab 16 (rise_of n b) = e ∙ ap (λ (z : ℤ). tab 16 (rise_of n z)) (argument w32 w tt).is in
     (q, subst (Each 20000000) (sym q) (each_tab 20000000 16 (rise_of n b) (λ k m. rise_small n b k h w m)))
 
-pub loop-x-preserved : goal.loop-x-preserved
-loop-x-preserved c =
-    filling_more 16 _ c.loop-x.invariant (omega arith) ((argument w32 c.rise.ensures.1 tt).is ∙ c.rise.ensures.0)
-
 pub returns : goal.returns
-returns c = each c.args.n c.args.b c.requires.1 c.requires.2 (filling_done 16 _ c.loop-x.invariant (omega arith))
-
-pub loop-x-init : goal.loop-x-init
-loop-x-init c = filling_none 16 _ (search rules)
+returns c =
+    each c.args.n c.args.b c.requires.1 c.requires.2
+    (made_tab _ _ _ 16 (rise_of c.args.n (to_z w32 (of_z w32 c.args.b))) (λ k y q h p. search rules) c.from_fn.ensures.items)

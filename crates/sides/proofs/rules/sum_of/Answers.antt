@@ -1,12 +1,10 @@
 use Rattle.std.proofs.Common.{arith}
-use Rattle.lists.proofs.Total.{totalling_none, totalling_more, totalling_done}
+use Rattle.lists.proofs.Total.{totalling_none, totalling_more}
 use Rattle.sides.proofs.rules.sum_of.Goals as goal
 
-pub loop-k-init : goal.loop-k-init
-loop-k-init c = totalling_none _ _ _
+pub loop-sample-init : goal.loop-sample-init
+loop-sample-init c = totalling_none _ _ _
 
-pub loop-k-preserved : goal.loop-k-preserved
-loop-k-preserved c = totalling_more _ _ _ c.loop-k.invariant (omega arith) c.wide-sum.ensures.0 c.wide-sum.ensures.1
-
-pub returns : goal.returns
-returns c = (totalling_done _ _ _ c.loop-k.invariant (omega arith), omega arith)
+pub loop-sample-preserved : goal.loop-sample-preserved
+loop-sample-preserved c =
+    totalling_more _ _ _ c.loop-sample.invariant (omega arith) c.from-sum.ensures (omega (arith, c.type_inv.side c.loop-sample.sample-index))

@@ -8,7 +8,7 @@ use native.Mathlib.Omega.{arith}
 use lib.IntN.{ℤ}
 use lib.ListN.{length}
 use Rattle.lists.specs.Tab.{tab}
-use Rattle.lists.proofs.Stores.{Apart, striding_none, striding_more}
+use Rattle.lists.proofs.Stores.{Apart, striding_more}
 use Rattle.whole.specs.Bounds.{Each}
 use Rattle.whole.proofs.Lists.{each_less}
 use Rattle.transform.specs.Quads.{by_row, line, wide}
@@ -53,9 +53,6 @@ module _ {x y : List ℤ} {column : ℕ} (each : Each 131072 x) (long : length x
 
 -- ---- the goals
 
-pub loop-row-init : goal.loop-row-init
-loop-row-init c = striding_none _ _ _ _ _ _ _
-
 pub inverse_line-requires : goal.inverse_line-requires
 inverse_line-requires c =
     let i = c.loop-row.invariant in
@@ -66,9 +63,6 @@ pub loop-row-preserved : goal.loop-row-preserved
 loop-row-preserved c =
     let long : length c.args.d ≡ 16 = search rules in
     striding_more _ _ _ _ _ _ rows_apart back_local c.loop-row.invariant (search rules) (λ j l. omega arith) c.inverse_line.ensures
-
-pub loop-column-init : goal.loop-column-init
-loop-column-init c = striding_none _ _ _ _ _ _ _
 
 pub inverse_line-requires-in-loop-column : goal.inverse_line-requires-in-loop-column
 inverse_line-requires-in-loop-column c =

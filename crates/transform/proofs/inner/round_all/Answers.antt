@@ -26,16 +26,16 @@ module _ {x₀ x : List ℤ} {k : ℕ} (each : Each wide x₀) (stored : Storing
   small : Each wide (get_or x k (pos 0) ∷ [])
   small = (subst (Within wide) (sym as_before) (each_at wide x₀ each k), tt)
 
-pub loop-k-init : goal.loop-k-init
-loop-k-init c = storing_none _ _ _ _
+pub loop-value-init : goal.loop-value-init
+loop-value-init c = storing_none _ _ _ _
 
-pub overflow_add-x : goal.overflow_add-x
-overflow_add-x c = safe w32 wide (get_or c.loop-k.x c.loop-k.k (pos 0) ∷ []) (small c.requires c.loop-k.invariant) sum tt
+pub overflow_add-value : goal.overflow_add-value
+overflow_add-value c = safe w32 wide (get_or c.loop-value.x c.loop-value.value-index (pos 0) ∷ []) (small c.requires c.loop-value.invariant) sum tt
 
-pub loop-k-preserved : goal.loop-k-preserved
-loop-k-preserved c =
-    storing_more _ _ _ c.loop-k.invariant (omega arith) refl
-    (exact w32 wide (get_or c.loop-k.x c.loop-k.k (pos 0) ∷ []) (small c.requires c.loop-k.invariant) (shr sum 6) tt ∙ ap rounded (as_before c.requires c.loop-k.invariant))
+pub loop-value-preserved : goal.loop-value-preserved
+loop-value-preserved c =
+    storing_more _ _ _ c.loop-value.invariant (omega arith) refl
+    (exact w32 wide (get_or c.loop-value.x c.loop-value.value-index (pos 0) ∷ []) (small c.requires c.loop-value.invariant) (shr sum 6) tt ∙ ap rounded (as_before c.requires c.loop-value.invariant))
 
 pub returns : goal.returns
-returns c = storing_done _ _ _ c.loop-k.invariant (omega arith) ∙ stores_in_turn _ c.args.x.now
+returns c = storing_done _ _ _ c.loop-value.invariant (omega arith) ∙ stores_in_turn _ c.args.x.now
