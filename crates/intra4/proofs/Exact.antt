@@ -1,5 +1,5 @@
 -- A mode whose samples are the block's own: what the code's test of it comes to, and that it is the choice.
---     differs, fits_by   one sample differs, or all are compared
+--     differs, fits_by   one sample differs, or the SAD says it
 --     vertical_fits, vertical_fails, horizontal_fits     so the mode is permitted and the block's own, or vertical prediction is not
 --     vertical_picked, horizontal_picked     it is picked, where no lower mode fits so
 -- Assumes nothing.
@@ -10,8 +10,9 @@ use mathlib.Core.Logic.{◌↔◌}
 use Prim.Native.Nat.{ℕ, ◌+◌, ◌*◌, ◌<◌}
 use native.Mathlib.Nat.{not-suc-le-zero}
 use native.Mathlib.Omega.{arith}
+use borrow.Author.Tests.{eqb-true, eq-eqb}
+use lib.Dec.{eqb}
 use lib.ListN.{length, get_or}
-use Rattle.std.specs.Bool.{Decides}
 use Rattle.lists.specs.Tab.{grid}
 use Rattle.lists.proofs.Tab.{get_d_grid}
 use Rattle.choice.specs.Choice.{is, sad}
@@ -35,8 +36,12 @@ module _ (g : ℕ → ℕ → ℕ) (block : List ℕ) where
   differs x y h k e n =
       (λ z. absurd (false≢true z), λ q. absurd (n (e ∙ sym (get_d_grid 4 g x y 0 h k) ∙ ap (λ (l : List ℕ). get_or l (4 * y + x) 0) q)))
 
-  pub fits_by : (l : List ℕ) (r : Bool) → l ≡ grid 4 g → Decides r (l ≡ block) → (r ≡ true) ↔ (grid 4 g ≡ block)
-  fits_by l r e d = (λ z. sym e ∙ d.0 z, λ x. d.1 (e ∙ x))
+  pub fits_by : {l : List ℕ} {d : ℕ} → length block ≡ 16 → length l ≡ 16 → l ≡ grid 4 g → d ≡ sad (length l) l block → (eqb d 0 ≡ true) ↔ (grid 4 g ≡ block)
+  fits_by {l} {d} long n e q =
+      let c : d ≡ sad 16 l block = q ∙ ap (λ (k : ℕ). sad k l block) n in (
+        λ z. sym e ∙ sad_zero 16 l block n long (sym c ∙ eqb-true d 0 z),
+        λ x. eq-eqb d 0 (c ∙ ap (λ (k : List ℕ). sad 16 k block) (e ∙ x) ∙ sad_self 16 block),
+      )
 
 -- what the code finds of vertical prediction, and of horizontal prediction where that is not it
 module _ (t s : List ℕ) (f : ℕ) (block : List ℕ) where

@@ -13,8 +13,8 @@ pub(crate) struct Rows {
 }
 
 // The rows as lent, D in place of E to H where these are missing. A missing side is in its row all the same, and no permitted mode reads it.
-// The rows are written out: with nine by `<[u8; 9]>::try_from(&n[..9]).unwrap()`, or by `array::from_fn`, which both proved, a choice is 2 to 3 per cent more
-// instructions (143 for 140 on flat blocks, 149 for 145 where some rows differ, 455 for 446 on busy ones); the five stand in no one part.
+// The rows are written out: with nine by `<[u8; 9]>::try_from(&n[..9]).unwrap()`, or by `array::from_fn`, which both proved, a choice has 3 to 9 instructions
+// more, 2 to 3 in a hundred; the five stand in no one part.
 pub(crate) fn resolve(n: &[u8], flags: u8) -> Rows
     requires { length n.now ≡ 13 }
     ensures { (result.top ≡ top_row n.now flags) × (result.left ≡ left_row n.now) × (result.flags ≡ flags) }

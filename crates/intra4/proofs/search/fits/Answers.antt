@@ -1,7 +1,5 @@
--- `intra4::search::fits` meets its contract: one sample differs, or all are compared. Assumes nothing.
+-- `intra4::search::fits` meets its contract: one sample differs, or the SAD says it. Assumes nothing.
 use native.Mathlib.Omega.{arith}
-use Rattle.std.proofs.lemmas.Bool.Decides.{Decides-eqb}
-use Rattle.std.proofs.lemmas.Slice.Eq.{slice_eq-Decides}
 use Rattle.intra4.proofs.Exact.{differs, fits_by}
 use Rattle.intra4.proofs.search.fits.Goals as goal
 use Rattle.intra4.proofs.search.fits.Goals.{then-rule-samples-via-then-rule-samples, then-rule-samples-via-else-rule-samples+then-rule-samples-2}
@@ -15,4 +13,4 @@ returns-then-rule-samples g c =
     ]
 
 pub returns : goal.returns
-returns g c = λ h k. fits_by h _ _ _ (c.put_by.ensures h k) (slice_eq-Decides Decides-eqb _ _ _ c.eq.ensures)
+returns g c = λ h k. fits_by h _ c.requires.block (omega arith) (c.put_by.ensures h k) c.sad.ensures.0
