@@ -3,7 +3,7 @@
 #             the places of the parameters that are outputs (they have a `mut` reference), file, and all that stands between its name and its body
 #   cites     crate, module path and type, name of a function; crate, `specs/FILE` and name of a definition of specs/ that stands in one of its `ensures`,
 #             and the numbers that stand there directly behind it
-#   refusing  a type that holds a `Refusal`
+#   refusing  a type that holds a `Refusal`, or has a variant `Refused`
 #   lending   crate, a type that holds a `mut` reference
 #   word      any name that is declared, or used of elsewhere
 # A function is public if it has a `pub`, wherever it stands, in whatever order with `const`, `unsafe`, `extern` and the like; only
@@ -155,7 +155,7 @@ function inside_item(t) {
     if (t == "[" || t == "(") { bracket++ } else if (t == "]" || t == ")") { bracket-- }
     if (body[depth] != "" && t ~ /^[A-Za-z_]/) {
         print "word", t
-        if (t == "Refusal") { print "refusing", body[depth] }
+        if (t == "Refusal" || t == "Refused") { print "refusing", body[depth] }
     }
     if (t == "mut" && (last == "&" || last ~ /^'/) && (body[depth] != "" || item == "struct" || item == "type")) {
         print "lending", crate, no_path(body[depth] != "" ? body[depth] : subject)

@@ -1,4 +1,4 @@
-//! The library's functions as it exports them, over slices: all unsafe code of the tools but one hint to the system (`pages`).
+//! The library's functions as it exports them, over slices, and one hint to the system: all unsafe code of the tools.
 //!
 //! What the library asks of a caller (`include/fleecebutton.h`), and why the calls below keep it whatever they are given:
 //! - a pointer is to as many elements as are lent with it: both are taken of one slice, whose pointer is aligned and not null, an empty
@@ -304,3 +304,23 @@ pub fn quality_sheet(width: usize, height: usize, original: &[u8], rebuilt: &[u8
         )
     })
 }
+
+/// Asks the system for large pages for an area that is about to be filled. A hint: where there are none, or the area is small, all is as before.
+#[cfg(target_os = "linux")]
+pub fn ask_for_large_pages(area: *const u8, bytes: usize) {
+    extern "C" {
+        fn madvise(address: *const u8, length: usize, advice: i32) -> i32;
+    }
+    // where pages are larger the address may be refused, and then nothing happens
+    const PAGE: usize = 4096;
+    const MADV_HUGEPAGE: i32 = 14;
+    const LARGE: usize = 2 << 20;
+    if bytes >= LARGE {
+        let skipped = area.align_offset(PAGE);
+        // SAFETY: this advice changes no byte and no right of any page, whatever address it is given.
+        let _ = unsafe { madvise(area.wrapping_add(skipped), bytes.saturating_sub(skipped), MADV_HUGEPAGE) };
+    }
+}
+
+#[cfg(not(target_os = "linux"))]
+pub fn ask_for_large_pages(_: *const u8, _: usize) {}

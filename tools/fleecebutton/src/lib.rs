@@ -21,7 +21,6 @@ mod block;
 mod calls;
 mod fault;
 mod layout;
-#[allow(unsafe_code)]
 mod pages;
 mod plane;
 mod record;
