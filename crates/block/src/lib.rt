@@ -40,7 +40,7 @@ pub fn code_block(
     }
     let quantizer = Quantizer::new(qp)?;
     let block = inner::coded(quantizer, neighbours, flags, samples);
-    levels.copy_from_slice(&block.levels);
+    whole::inner::copy(&block.levels, levels);
     rebuilt.copy_from_slice(&block.rebuilt);
     let Block { mode, sad, .. } = block;
     Ok(Chosen { mode, sad })

@@ -11,7 +11,8 @@ fn main(rt: HostRuntime) -> io::Result<()> {
     // room for one byte more than wanted, so that a longer input is seen
     let mut input = [0u8; 32];
     let count = read_full(&mut rt.stdin(), &mut input)?;
-    print!(rt; "{}", printing::printed(&input[..count]).written)
+    let text = printing::printed(&input[..count]);
+    rt.write_all(&text.bytes[..text.len])
 }
 
 // Reads until the buffer is full or the input ends, and gives how many bytes there are. A read takes one at the least, so there are no more reads than

@@ -19,7 +19,7 @@ pub fn sad(a: &[u8], b: &[u8]) -> u16
 {
     a.iter()
         .zip(b[..a.len()].iter())
-        .map(|(x, y)| u16::from(x.abs_diff(*y)))
+        .map(|(x, y)| u16::from(whole::inner::gap(*x, *y)))
         .sum()
 }
 

@@ -33,7 +33,7 @@ fn luma_levels(quantizer: Quantizer, dc: &mut [i32])
     let mut t = transform::inner::hadamard4(w);
     quantized_dc(quantizer, &mut t, 2);
     let ordered = residual::inner::in_zigzag(t);
-    dc.copy_from_slice(&ordered);
+    whole::inner::copy(&ordered, dc);
 }
 
 // The levels of four chroma DC values, in raster order, written over them.
@@ -44,7 +44,7 @@ fn chroma_levels(quantizer: Quantizer, dc: &mut [i32])
     let w = <[i32; 4]>::try_from(&*dc).unwrap();
     let mut t = transform::inner::hadamard2(w);
     quantized_dc(quantizer, &mut t, 1);
-    dc.copy_from_slice(&t);
+    whole::inner::copy(&t, dc);
 }
 
 // The levels of a macroblock's DC values, sixteen of luma or four of chroma, written over them.
@@ -101,10 +101,10 @@ pub fn values_over(quantizer: Quantizer, dc: &mut [i32])
 {
     if dc.len() == 16 {
         let levels = <[i32; 16]>::try_from(&*dc).unwrap();
-        dc.copy_from_slice(&luma_values(quantizer, levels));
+        whole::inner::copy(&luma_values(quantizer, levels), dc);
     } else {
         let levels = <[i32; 4]>::try_from(&*dc).unwrap();
-        dc.copy_from_slice(&chroma_values(quantizer, levels));
+        whole::inner::copy(&chroma_values(quantizer, levels), dc);
     }
 }
 

@@ -1,11 +1,12 @@
 -- What the tests of a record's content come to, and what a fine content gives.
 --     levels_small               levels read from a file have 16 bits
+--     range_clean, range_found   a block's range, by the scan of its numbers
 --     zero_range, zero_samples   levels that are all 0 are in range, and leave the prediction as it is
 --     mode_far, mode_sent, range_far, content_fine     the verdicts behind a legal number
 --     Fine, fine                 what is known of a record whose content is fine
 -- Assumes nothing.
 use mathlib.Core.Path.{◌≡◌, sym, ap, ◌∙◌}
-use mathlib.Core.Bool.{true, not}
+use mathlib.Core.Bool.{true, false, not}
 use mathlib.Core.List.{List}
 use Prim.Native.Nat.{ℕ, ◌+◌, ◌*◌, ◌<◌, ◌≤◌}
 use native.Mathlib.Omega.{arith}
@@ -15,6 +16,7 @@ use lib.IntN.{ℤ, pos, ◌*ℤ◌}
 use lib.ListN.{length, get_or}
 use Rattle.lists.specs.Bytes.{Bytes}
 use Rattle.lists.specs.Chain.{pass, stop, chain}
+use Rattle.lists.specs.First.{first}
 use Rattle.lists.specs.Tab.{tab}
 use Rattle.lists.proofs.Chain.{chain_exactly_if}
 use Rattle.lists.proofs.First.{first_le, first_before}
@@ -28,6 +30,7 @@ use Rattle.residual.specs.Order.{in_zigzag, in_places}
 use Rattle.residual.specs.Rebuild.{rebuilt_samples}
 use Rattle.residual.specs.Rescale.{scaled_by, v_at, rescaled}
 use Rattle.residual.proofs.Entry.{range_each}
+use Rattle.residual.proofs.Scan.{wide_at, scan_clean, scan_found}
 use Rattle.residual.proofs.Zeros.{zeros, places_zeros, rescaled_zeros, zeros_fit, samples_zeros}
 use Rattle.quantizer.specs.Range.{highest, period_of}
 use Rattle.quantizer.proofs.Range.{number_passes, number_legal}
@@ -44,6 +47,14 @@ unfolding levels_in
 levels_small part b = each_tab 32768 16 (λ k. level_in b k part) (λ k h. sixteen_bits (number_at (in_fours.front + 2 * (16 * b + k)) part))
 
 module _ (part : List ℕ) (b : ℕ) where
+  pub range_clean : first 16 (wide_at (in_zigzag (rescaled_in part b))) ≡ 16 → range_holds part b ≡ true
+  unfolding range_holds
+  range_clean = scan_clean (rescaled_in part b)
+
+  pub range_found : (k : ℕ) → k < 16 → first 16 (wide_at (in_zigzag (rescaled_in part b))) ≡ k → range_holds part b ≡ false
+  unfolding range_holds
+  range_found = scan_found (rescaled_in part b)
+
   length_rescaled : length (rescaled_in part b) ≡ 16
   unfolding rescaled_in rescaled
   length_rescaled = length_tab 16 (λ place. scaled_by 0 (period_of (qp_in part)) (get_or (in_places (levels_in b part)) place (pos 0) *ℤ pos (v_at (qp_in part) place)))

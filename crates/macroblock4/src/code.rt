@@ -36,7 +36,7 @@ pub(crate) fn code_turn(
         levels: own_levels,
         rebuilt: own,
     } = block::inner::coded(quantizer, &neighbours, flags, &samples);
-    levels.copy_from_slice(&own_levels);
+    whole::inner::copy(&own_levels, levels);
     picture::inner::store_block(rebuilt, layout, m, b, own);
     Standing { mode, cost }
 }

@@ -6,7 +6,7 @@ ghost use Rattle.residual.specs.Order.{in_zigzag};
 ghost use Rattle.record.specs.Kinds.{in_fours, length_of};
 ghost use Rattle.record.specs.Records.{qp_in};
 ghost use Rattle.picture.specs.Order.{Among};
-ghost use Rattle.macroblock4.specs.Content.{mode_holds, rescaled_in, range_holds, first_mode, first_range};
+ghost use Rattle.macroblock4.specs.Content.{mode_holds, rescaled_in, first_mode, first_range};
 
 use picture::Layout;
 use quantizer::Quantizer;
@@ -56,22 +56,25 @@ impl Quantized<'_> {
         residual::inner::in_zigzag(self.rescaled(b))
     }
 
-    // Whether they fit 16 bits; where all levels are 0 that needs no rescaling.
-    fn range_holds(self, b: usize) -> bool
-        requires { b < 16 }
-        ensures { result ≡ range_holds self.entry.part.now b }
-    {
-        if record::inner::all_zero(self.part, b) {
-            return true;
-        }
-        let numbers = self.rescaled_in_zigzag(b);
-        whole::inner::first_outside(&numbers, -32768, 32767).is_none()
-    }
-
     // The block of the first rescaled number outside 16 bits, in block order and zigzag order, if there is one.
+    // By nested loops over blocks and levels, left by a label: this form is asked for (docs/DECISIONS.md, 43). A block whose levels are all 0 needs no
+    // rescaling.
     pub(crate) fn first_range(self) -> Option<usize>
         ensures { result ≡ found 16 (first_range self.entry.part.now) }
     {
-        (0usize..16).find(|b| !self.range_holds(*b))
+        let mut offence = None;
+        'blocks: for b in 0usize..16 {
+            if record::inner::all_zero(self.part, b) {
+                continue;
+            }
+            let numbers = self.rescaled_in_zigzag(b);
+            for number in numbers.iter() {
+                if !whole::inner::inside(*number, -32768, 32767) {
+                    offence = Some(b);
+                    break 'blocks;
+                }
+            }
+        }
+        offence
     }
 }

@@ -23,7 +23,9 @@ pub fn write_levels(levels: &[i32], out: &mut [u8])
     ensures { out.new ≡ level_bytes levels.now }
 {
     for (k, level) in levels.iter().enumerate() {
-        out[2 * k..2 * k + 2].copy_from_slice(&(*level as i16).to_be_bytes());
+        let [high, low] = (*level as i16).to_be_bytes();
+        out[2 * k] = high;
+        out[2 * k + 1] = low;
     }
 }
 

@@ -1,6 +1,6 @@
 -- What `blockprint` prints (01, "Measured pieces"): "reads 31 bytes: QP, flags, 13 neighbours, 16 samples in raster order".
 -- Assumes nothing.
-use Rattle.std.specs.Prelude.{◌≡◌, cond, List, [], ◌∷◌, ◌++◌, ℕ, ◌≤◌, eqb, ℤ, pos, length, get_or, take, drop, replicate}
+use Rattle.std.specs.Prelude.{cond, List, [], ◌∷◌, ◌++◌, ℕ, ◌≤◌, eqb, ℤ, pos, length, get_or, take, drop, replicate}
 use Rattle.lists.specs.Chain.{Verdict, pass, stop, chain}
 use Rattle.refusal.specs.Number.{number, place}
 use Rattle.refusal.specs.declared.Refusal.{Refusal}
@@ -9,7 +9,7 @@ use Rattle.intra4.specs.Samples.{mask}
 use Rattle.intra4.specs.Choice.{Best, nothing, at, chosen}
 use Rattle.block.specs.Block.{coded_levels, coded_samples}
 use Rattle.block.specs.Entry.{code_tests}
-use Rattle.printing.specs.Text.{decimal_of, signed_of, line_of}
+use Rattle.printing.specs.Text.{decimal_of, signed_of, line_of, Written}
 use Rattle.printing.specs.declared.Text.{Text}
 
 -- "A refusal prints `refused`, number, place."
@@ -42,5 +42,5 @@ text_of input =
     (outcome_text (stop refusal.Length) [])
 
 pub record Prints (input : List ℕ) (r : Text) : Type 0 where
-  pub wrote : r ≡ text_of input
-  pub room : length r ≤ 1024
+  pub wrote : Written (text_of input) r
+  pub room : r.len ≤ 1024

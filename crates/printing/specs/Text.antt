@@ -1,6 +1,7 @@
 -- Text in ASCII: numbers in decimal, lines of sixteen numbers (01, "Measured pieces": what `blockprint` prints). Assumes nothing.
-use Rattle.std.specs.Prelude.{cond, ◌||◌, List, [], ◌∷◌, ◌++◌, ℕ, ◌+◌, ◌-◌, ◌/◌, ◌%◌, ◌^◌, eqb, leb, ℤ, pos, negsuc, nat_abs}
+use Rattle.std.specs.Prelude.{◌≡◌, cond, ◌||◌, List, [], ◌∷◌, ◌++◌, ℕ, ◌+◌, ◌-◌, ◌/◌, ◌%◌, ◌^◌, eqb, leb, ℤ, pos, negsuc, nat_abs, length, replicate}
 use Rattle.lists.specs.Parts.{parts}
+use Rattle.printing.specs.declared.Text.{Text}
 
 -- a digit stands where the number reaches its power of ten, and the last one always
 unfoldable pub digit_at : ℕ → ℕ → List ℕ
@@ -25,3 +26,12 @@ behind k = cond (eqb k 15) 10 32
 -- sixteen texts in a line
 unfoldable pub line_of : (ℕ → List ℕ) → List ℕ
 line_of text = parts 16 (λ k. text k ++ (behind k ∷ []))
+
+-- ---- text in a buffer of 1024 bytes, the others 0
+
+unfoldable pub padded : List ℕ → List ℕ
+padded w = w ++ replicate (1024 - length w) 0
+
+pub record Written (w : List ℕ) (t : Text) : Type 0 where
+  pub bytes : t.bytes ≡ padded w
+  pub count : t.len ≡ length w

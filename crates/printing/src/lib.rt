@@ -5,7 +5,7 @@
 ghost use Rattle.std.specs.Prelude.{◌+◌, ◌≤◌, ◌≡◌, [], ◌∷◌, ◌++◌, pos, length, slice_index_or};
 ghost use Rattle.refusal.specs.Number.{number_of, place_of};
 ghost use Rattle.intra4.specs.Choice.{at};
-ghost use Rattle.printing.specs.Text.{signed_of, behind as paperBehind, line_of};
+ghost use Rattle.printing.specs.Text.{signed_of, behind as paperBehind, line_of, Written};
 ghost use Rattle.printing.specs.Printed.{refused_text, ok_text, Prints};
 
 use arrayvec::ArrayString;
@@ -13,14 +13,21 @@ use itoa::{Buffer, Integer};
 use refusal::Refusal;
 use std::marker::Model;
 
-// A text of at most 1024 bytes, in the value itself, so that none of the functions here can run out of memory.
-// By `push_str` and not `write!`, which answers a `Result` of which no clause says that it is `Ok`: `printed` cannot fail.
-#[derive(Drop)]
+// Text and its length; what stands behind it is 0.
+#[derive(Clone, Copy)]
 pub struct Text {
-    pub written: ArrayString<1024>,
+    pub bytes: [u8; 1024],
+    pub len: usize,
 }
 
-impl Model for Text {
+// A text of at most 1024 bytes while it grows, in the value itself, so that none of the functions here can run out of memory.
+// By `push_str` and not `write!`, which answers a `Result` of which no clause says that it is `Ok`: `printed` cannot fail.
+#[derive(Drop)]
+struct Draft {
+    written: ArrayString<1024>,
+}
+
+impl Model for Draft {
     ghost use Rattle.std.specs.Prelude.{List, ℕ};
 
     ghost Value = { List ℕ };
@@ -28,11 +35,11 @@ impl Model for Text {
     ghost view = { λ t. t.written.bytes };
 }
 
-impl Text {
+impl Draft {
     fn new() -> Self
         ensures { result ≡ [] }
     {
-        Text {
+        Draft {
             written: ArrayString::new(),
         }
     }
@@ -63,6 +70,18 @@ impl Text {
             self.push_str(behind(k));
         }
     }
+
+    // The text as it is handed out, its bytes in front of zeros.
+    fn finish(self) -> Text
+        ensures text { Written self result }
+        ensures room { result.len ≤ 1024 }
+    {
+        let written = self.written.as_str().as_bytes();
+        let len = written.len();
+        let mut bytes = [0u8; 1024];
+        bytes[..len].copy_from_slice(written);
+        Text { bytes, len }
+    }
 }
 
 // What stands behind the k-th of sixteen numbers.
@@ -74,23 +93,23 @@ fn behind(k: usize) -> &'static str
 
 #[tactic(auto, using(crate::proofs::Decimal::decimal_is))]
 fn refused(refusal: Refusal) -> Text
-    ensures text { result ≡ refused_text (number_of refusal) (place_of refusal) }
-    ensures room { length result ≤ 1024 }
+    ensures text { Written (refused_text (number_of refusal) (place_of refusal)) result }
+    ensures room { result.len ≤ 1024 }
 {
-    let mut text = Text::new();
+    let mut text = Draft::new();
     text.push_str("refused ");
     text.push_number(refusal::inner::number(refusal));
     text.push_str(" ");
     text.push_number(refusal::inner::place(refusal));
     text.push_str("\n");
-    text
+    text.finish()
 }
 
 fn accepted(mode: u8, sad: u32, levels: [i32; 16], rebuilt: [u8; 16]) -> Text
-    ensures text { result ≡ ok_text (at mode sad) levels rebuilt }
-    ensures room { length result ≤ 1024 }
+    ensures text { Written (ok_text (at mode sad) levels rebuilt) result }
+    ensures room { result.len ≤ 1024 }
 {
-    let mut text = Text::new();
+    let mut text = Draft::new();
     text.push_str("ok ");
     text.push_number(mode);
     text.push_str(" ");
@@ -98,7 +117,7 @@ fn accepted(mode: u8, sad: u32, levels: [i32; 16], rebuilt: [u8; 16]) -> Text
     text.push_str("\n");
     text.push_line(&levels);
     text.push_line(&rebuilt.map(i32::from));
-    text
+    text.finish()
 }
 
 // QP, flags, thirteen neighbours and sixteen samples, coded, as text; any other count is refused as a wrong length.

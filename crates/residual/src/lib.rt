@@ -17,7 +17,7 @@ pub fn levels(qp: u8, residual: &[i32], out: &mut [i32]) -> Result<(), Refusal>
     let quantizer = inner::residuals_accepted(16, -255, 255, qp, residual, out.len())?;
     let x = <[i32; 16]>::try_from(residual).unwrap();
     let ordered = inner::in_zigzag(inner::quantized(quantizer, x));
-    out.copy_from_slice(&ordered);
+    whole::inner::copy(&ordered, out);
     Ok(())
 }
 
@@ -80,7 +80,7 @@ pub fn rebuild_with_dc(
 {
     let quantizer = levels_accepted(15, 1, qp, prediction.len(), ac, out.len())?;
     let mut l = [0i32; 16];
-    l[1..].copy_from_slice(ac);
+    whole::inner::copy(ac, &mut l[1..]);
     let mut numbers = inner::rescaled(quantizer, inner::in_places(l));
     numbers[0] = dc;
     finished(prediction, numbers, out)

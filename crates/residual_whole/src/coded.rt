@@ -28,7 +28,7 @@ fn block_to_levels(
     let residual = block::inner::lacking(&own, area::part(prediction, s, b));
     let coefficients = transform::inner::forward_block(residual);
     let levels = residual::inner::in_zigzag(residual::inner::quantized(quantizer, residual));
-    ac.copy_from_slice(&levels[1..]);
+    whole::inner::copy(&levels[1..], ac);
     coefficients[0]
 }
 

@@ -25,7 +25,7 @@ pub fn levels(s: usize, quantizer: Quantizer, prediction: &[u8], samples: &[u8],
     let coefficients = &mut room[..count];
     coded::blocks_to_levels(s, quantizer, prediction, samples, coefficients, levels);
     dc::inner::levels_over(quantizer, coefficients);
-    levels[..count].copy_from_slice(coefficients);
+    whole::inner::copy(coefficients, &mut levels[..count]);
 }
 
 // Whether all DC values fit 16 bits.
@@ -40,11 +40,23 @@ pub fn dc_fits(s: usize, quantizer: Quantizer, levels: &[i32]) -> bool
 }
 
 // The block of the first rescaled AC level outside 16 bits, in block order and zigzag order, if there is one.
+// By nested loops over blocks and levels, left by a label: this form is asked for (docs/DECISIONS.md, 100).
 pub fn first_ac(s: usize, quantizer: Quantizer, levels: &[i32]) -> Option<usize>
     requires { (Sided s) × (quantizer.qp ≤ highest) × (length levels.now ≡ s * s) × (Each 32768 levels.now) }
     ensures { result ≡ found (blocks_of s) (first_ac s quantizer.qp levels.now) }
 {
-    (0..s * s / 16).find(|b| !rebuilt::ac_fits(s, quantizer, levels, *b))
+    let count = s * s / 16;
+    let mut offence = None;
+    'blocks: for b in 0usize..count {
+        let numbers = rebuilt::ac_rescaled(s, quantizer, levels, b);
+        for number in numbers.iter() {
+            if !whole::inner::inside(*number, -32768, 32767) {
+                offence = Some(b);
+                break 'blocks;
+            }
+        }
+    }
+    offence
 }
 
 // The samples of a prediction and s by s levels in range.

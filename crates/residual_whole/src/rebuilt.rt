@@ -6,7 +6,7 @@ ghost use Rattle.residual.specs.Entry.{first_wide};
 ghost use Rattle.residual.specs.Order.{in_zigzag, in_places};
 ghost use Rattle.residual.specs.Rebuild.{rebuilt_samples, rescaled_with_dc};
 ghost use Rattle.residual_whole.specs.Area.{Sided, blocks_of, part_in};
-ghost use Rattle.residual_whole.specs.Rebuilt.{ac_in, values_in, whole_samples, dc_fits, ac_numbers, ac_fits, first_ac};
+ghost use Rattle.residual_whole.specs.Rebuilt.{ac_in, values_in, whole_samples, dc_fits, ac_numbers, first_ac};
 
 use crate::area;
 use quantizer::Quantizer;
@@ -35,7 +35,7 @@ pub(crate) fn dc_values(s: usize, quantizer: Quantizer, levels: &[i32], values: 
     ensures { values.new ≡ values_in s quantizer.qp levels.now }
 {
     let count = values.len();
-    values.copy_from_slice(&levels[..count]);
+    whole::inner::copy(&levels[..count], values);
     dc::inner::values_over(quantizer, values);
 }
 
@@ -49,21 +49,13 @@ pub(crate) fn all_fit(numbers: &[i32]) -> bool
 }
 
 // The rescaled AC levels of block b, in the order of the levels.
-fn ac_rescaled(s: usize, quantizer: Quantizer, levels: &[i32], b: usize) -> [i32; 16]
+pub(crate) fn ac_rescaled(s: usize, quantizer: Quantizer, levels: &[i32], b: usize) -> [i32; 16]
     requires { (Sided s) × (quantizer.qp ≤ highest) × (length levels.now ≡ s * s) × (Each 32768 levels.now) × (b < blocks_of s) }
     ensures { result ≡ in_zigzag (ac_numbers s quantizer.qp levels.now b) }
 {
     let mut numbers = residual::inner::rescaled(quantizer, ac(s, levels, b));
     numbers[0] = 0;
     residual::inner::in_zigzag(numbers)
-}
-
-// Whether they fit 16 bits.
-pub(crate) fn ac_fits(s: usize, quantizer: Quantizer, levels: &[i32], b: usize) -> bool
-    requires { (Sided s) × (quantizer.qp ≤ highest) × (length levels.now ≡ s * s) × (Each 32768 levels.now) × (b < blocks_of s) }
-    ensures { result ≡ ac_fits s quantizer.qp levels.now b }
-{
-    all_fit(&ac_rescaled(s, quantizer, levels, b))
 }
 
 // The samples of block b beside its DC value: its predicted ones where that and all its levels are 0.

@@ -1,7 +1,7 @@
 // The transforms of whole blocks, by value. Forward and Hadamard hold sixteen numbers as four rows of four; the inverse writes over one array.
 ghost use Rattle.std.specs.Prelude.{◌≡◌, ℕ, ◌+◌, ◌*◌, ◌<◌, [], pos, length, get_or};
 ghost use Rattle.lists.specs.Stores.{stores};
-ghost use Rattle.lists.specs.Tab.{tab};
+ghost use Rattle.lists.specs.Tab.{tab, turned};
 ghost use Rattle.whole.specs.Bounds.{Within, Each};
 ghost use Rattle.transform.specs.Matrix.{transposed, raster, entries};
 ghost use Rattle.transform.specs.Quads.{line, matrix, rows_of, through, wide};
@@ -31,10 +31,11 @@ fn in_raster(rows: [[i32; 4]; 4]) -> [i32; 16]
     array::from_fn(|place| rows[place / 4][place % 4])
 }
 
-// Rows and columns exchanged.
-#[tactic(auto, unfolding(lists::specs::Tab::tab))]
+// Rows and columns exchanged: as the rows that are held, and as `turned` of `lists` exchanges the sixteen numbers in raster order.
+#[tactic(auto, unfolding(lists::specs::Tab::tab, lists::specs::Tab::grid, lists::specs::Tab::turned))]
 fn turned(rows: [[i32; 4]; 4]) -> [[i32; 4]; 4]
-    ensures { result ≡ rows_of 4 (transposed (matrix rows)) }
+    ensures held { result ≡ rows_of 4 (transposed (matrix rows)) }
+    ensures exchanged { entries 4 (matrix result) ≡ turned (pos 0) 4 (entries 4 (matrix rows)) }
 {
     let [a, b, c, d] = rows;
     [

@@ -24,6 +24,6 @@ pub fn forward(residual: &[i32], coefficients: &mut [i32]) -> Result<(), Refusal
     }
     let x = <[i32; 16]>::try_from(residual).unwrap();
     let y = inner::forward_block(x);
-    coefficients.copy_from_slice(&y);
+    whole::inner::copy(&y, coefficients);
     Ok(())
 }

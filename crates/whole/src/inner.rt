@@ -44,8 +44,8 @@ pub fn first_outside(x: &[i32], low: i32, high: i32) -> Option<usize>
     x.iter().position(|z| !inside(*z, low, high))
 }
 
-// Copies the numbers of one slice over those of another. The library's own method, which callers use themselves: the name stays for `copy_unique`
-// (docs/STAMP.md), which may not change.
+// Copies the numbers of one slice over those of another.
+// A name for the library's method, which stays for `copy_unique`.
 pub fn copy(from: &[i32], to: &mut [i32])
     requires { length from.now ≡ length to.old }
     ensures { to.new ≡ from.now }

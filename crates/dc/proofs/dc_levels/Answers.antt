@@ -13,8 +13,8 @@ levels_over-requires g c =
     let a = c.args in
     let t = residuals_legal g.row.N (negsuc 4079) (pos 4080) a.qp a.dc.now (length a.levels.now) c.in_ok-quantizer.ensures refl in
     -- n values have been copied
-    let many : length c.copy_from_slice.new.self ≡ g.row.N = ap length c.copy_from_slice.ensures.after ∙ t.long in (
+    let many : length c.copy.new.to ≡ g.row.N = ap length c.copy.ensures ∙ t.long in (
       rw t.number t.legal,
       subst DcCount (sym many) c.requires,
-      kept 4080 c.copy_from_slice.ensures.after (none_each (negsuc 4079) (pos 4080) a.dc.now 4080 tt tt t.none),
+      kept 4080 c.copy.ensures (none_each (negsuc 4079) (pos 4080) a.dc.now 4080 tt tt t.none),
     )

@@ -102,4 +102,4 @@ returns g c =
     at_end (negsuc 32767) (pos 32767) (by_level g.row.N (dc_values g.row.N a.qp levels)) g.row.N (by_level_length g.row.N c.requires a.qp levels)
     (found_none g.row.N (far_of g.row.N a.qp levels) (sym looked ∙ c.in_default-first_far.is)) in
     let e = all_near g.row.N a.qp levels a.dc.now t.passed none end in
-    record { says = says (sym e); wrote = written_passed a.dc.now e (c.copy_from_slice.ensures.after ∙ made) }
+    record { says = says (sym e); wrote = written_passed a.dc.now e (c.copy.ensures ∙ made) }

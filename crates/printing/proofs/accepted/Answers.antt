@@ -1,5 +1,5 @@
 -- `printing::accepted` meets its contract: the word, mode and SAD, then the two lines. Assumes nothing.
-use mathlib.Core.Path.{◌≡◌, refl, ap}
+use mathlib.Core.Path.{◌≡◌, refl, ap, subst}
 use mathlib.Core.List.{List, [], ◌∷◌, ◌++◌}
 use Prim.Native.Nat.{ℕ, ◌<◌}
 use native.Mathlib.Omega.{arith}
@@ -7,7 +7,9 @@ use borrow.Author.Rules.{rules}
 use lib.IntN.{ℤ, pos}
 use lib.ListN.{get_or}
 use Rattle.lists.proofs.Parts.{parts_same}
-use Rattle.printing.specs.Text.{decimal_of, signed_of, behind, line_of}
+use Rattle.intra4.specs.Choice.{at}
+use Rattle.printing.specs.Text.{decimal_of, signed_of, behind, line_of, Written}
+use Rattle.printing.specs.Printed.{ok_text}
 use Rattle.printing.proofs.Decimal.{decimal_is}
 use Rattle.printing.proofs.accepted.Goals as goal
 
@@ -20,7 +22,7 @@ line_pos z n e = parts_same 16 _ _ (λ k h. ap (λ (x : ℤ). signed_of x ++ (be
 pub returns-clause-text : goal.returns-clause-text
 returns-clause-text c =
     let one : (k : ℕ) → k < 16 → get_or c.map.result k (pos 0) ≡ pos (get_or c.args.rebuilt k 0) = λ k h. search rules in
-    rw (
+    let e : c.push_line-2.new.self ≡ ok_text (at c.args.mode c.args.sad) c.args.levels c.args.rebuilt = rw (
       c.push_line-2.ensures.text,
       c.push_line.ensures.text,
       c.push_str-3.ensures,
@@ -32,4 +34,5 @@ returns-clause-text c =
       decimal_is c.args.mode (omega arith),
       decimal_is c.args.sad (omega arith),
       line_pos c.map.result c.args.rebuilt one,
-    ) refl
+    ) refl in
+    subst (λ (w : List ℕ). Written w c.finish.result) e c.finish.ensures.text

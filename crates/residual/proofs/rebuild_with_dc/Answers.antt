@@ -15,5 +15,5 @@ rescaled-numbers-requires c =
     let a = c.args in
     let f = levels_legal 15 1 a.qp (length a.prediction.now) a.ac.now (length a.out.now) c.in_ok-quantizer.ensures refl in
     -- the levels are the AC levels behind a 0, where the DC's level would stand
-    let filled = ap (λ (t : List ℤ). pos 0 ∷ t) (append-nil c.copy_from_slice.new.self ∙ c.copy_from_slice.ensures.after) in
+    let filled = ap (λ (t : List ℤ). pos 0 ∷ t) (append-nil c.copy.new.to ∙ c.copy.ensures) in
     (rw f.number f.legal, subst (Each 32768) (sym (c.in_places.ensures ∙ ap in_places filled)) (places_each 32768 (pos 0 ∷ a.ac.now) (record { size = zero-le }, f.small)))

@@ -42,5 +42,5 @@ returns c =
     let far : 16 ≤ outside x = omega (arith, none, c.if-residual-ne16.false) in
     let e = in_range x y c.if-residual-ne16.false c.if-coefficients-ne16.false far in
     let same : c.unwrap-x.result ≡ x = search rules in
-    let made = c.copy_from_slice.ensures.after ∙ c.forward_block-y.ensures ∙ ap forward same in
+    let made = c.copy.ensures ∙ c.forward_block-y.ensures ∙ ap forward same in
     record { says = says (sym e); wrote = made ∙ ap (λ (v : Verdict Refusal). written v (forward x) y) (sym e) }

@@ -29,4 +29,4 @@ quantized_dc-requires c =
 pub returns : goal.returns
 unfolding chroma_levels
 returns c =
-    c.copy_from_slice.ensures.after ∙ quantized_is 4 1 c.args.quantizer.qp c.quantized_dc.ensures (many c.before.before.before.before.before.before.before) (c.hadamard2-t.ensures ∙ ap (hadamard 2 H2) (same (goal.at.returns c).After-unwrap-w))
+    c.copy.ensures ∙ quantized_is 4 1 c.args.quantizer.qp c.quantized_dc.ensures (many c.before.before.before.before.before.before.before) (c.hadamard2-t.ensures ∙ ap (hadamard 2 H2) (same (goal.at.returns c).After-unwrap-w))

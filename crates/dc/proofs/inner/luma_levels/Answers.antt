@@ -30,4 +30,4 @@ quantized_dc-requires c =
 pub returns : goal.returns
 unfolding luma_levels
 returns c =
-    c.copy_from_slice.ensures.after ∙ c.in_zigzag-ordered.ensures ∙ ap in_zigzag (quantized_is 16 2 c.args.quantizer.qp c.quantized_dc.ensures (many c.before.before.before.before.before.before.before.before) (c.hadamard4-t.ensures ∙ ap (hadamard 4 H4) (same (goal.at.returns c).After-unwrap-w)))
+    c.copy.ensures ∙ c.in_zigzag-ordered.ensures ∙ ap in_zigzag (quantized_is 16 2 c.args.quantizer.qp c.quantized_dc.ensures (many c.before.before.before.before.before.before.before.before) (c.hadamard4-t.ensures ∙ ap (hadamard 4 H4) (same (goal.at.returns c).After-unwrap-w)))

@@ -11,12 +11,12 @@ pub returns-then-dc-eq16 : goal.returns-then-dc-eq16
 unfolding dc_values
 returns-then-dc-eq16 c =
     let same : c.unwrap-levels.result ≡ c.args.dc.now = search rules in
-    let made = c.copy_from_slice.ensures.after ∙ c.luma_values.ensures ∙ ap (luma_values _) same in
+    let made = c.copy.ensures ∙ c.luma_values.ensures ∙ ap (luma_values _) same in
     made ∙ of_sixteen (length c.args.dc.now) _ (chroma_values c.args.quantizer.qp c.args.dc.now) (omega arith)
 
 pub returns-else-dc-eq16 : goal.returns-else-dc-eq16
 unfolding dc_values
 returns-else-dc-eq16 c =
     let same : c.unwrap-levels-else-dc-eq16.result ≡ c.args.dc.now = search rules in
-    let made = c.copy_from_slice-else-dc-eq16.ensures.after ∙ c.chroma_values.ensures ∙ ap (chroma_values _) same in
+    let made = c.copy-else-dc-eq16.ensures ∙ c.chroma_values.ensures ∙ ap (chroma_values _) same in
     made ∙ of_four (length c.args.dc.now) (luma_values c.args.quantizer.qp c.args.dc.now) _ (λ e. omega arith)

@@ -16,7 +16,7 @@ pub returns-clause-cost_value : goal.returns-clause-cost_value
 returns-clause-cost_value c = (coded_at (goal.at.returns-clause-cost_value c).After-store_block).sad
 
 pub returns-clause-levels_after : goal.returns-clause-levels_after
-returns-clause-levels_after c = c.copy_from_slice.ensures.after ∙ (coded_at (goal.at.returns-clause-levels_after c).After-store_block).levels
+returns-clause-levels_after c = c.copy.ensures ∙ (coded_at (goal.at.returns-clause-levels_after c).After-store_block).levels
 
 pub returns-clause-rebuilt_after : goal.returns-clause-rebuilt_after
 returns-clause-rebuilt_after c =

@@ -37,5 +37,5 @@ returns-clause-ac_after c =
     let l = c.lacking-residual.ensures.0 ∙ (λ i. residual_of (c.part-own.ensures i) (c.part.ensures i)) in
     let all = c.in_zigzag-levels.result in
     let sixteen : length all ≡ 16 = search rules in
-    let behind : c.copy_from_slice.new.self ≡ drop 1 all = c.copy_from_slice.ensures.after ∙ take_all 15 (drop 1 all) (omega (arith, length-drop 1 all, sixteen)) in
+    let behind : c.copy.new.to ≡ drop 1 all = c.copy.ensures ∙ take_all 15 (drop 1 all) (omega (arith, length-drop 1 all, sixteen)) in
     behind ∙ ap (drop 1) (c.in_zigzag-levels.ensures ∙ ap in_zigzag (c.quantized.ensures ∙ ap (quantized c.args.quantizer.qp) l))

@@ -15,4 +15,4 @@ returns c =
     let many : length c.blocks_to_levels.new.coefficients ≡ blocks_of a.s = ap length e.coefficients_after.0 ∙ length_dc a.s a.samples.now a.prediction.now in
     let front : c.levels_over.new.dc ≡ dc_levels (blocks_of a.s) a.quantizer.qp c.blocks_to_levels.new.coefficients =
     c.levels_over.ensures ∙ ap (λ (n : ℕ). dc_levels n a.quantizer.qp c.blocks_to_levels.new.coefficients) many in
-    coded_whole a.s c.requires.0 a.quantizer.qp a.samples.now a.prediction.now a.levels.now c.requires.4 e.coefficients_after.0 e.levels_after (c.copy_from_slice.ensures.after ∙ front)
+    coded_whole a.s c.requires.0 a.quantizer.qp a.samples.now a.prediction.now a.levels.now c.requires.4 e.coefficients_after.0 e.levels_after (c.copy.ensures ∙ front)

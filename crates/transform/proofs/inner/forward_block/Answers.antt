@@ -13,7 +13,7 @@ pub each_row-requires : goal.each_row-requires
 each_row-requires c =
     let e = c.each_row-rows.ensures in
     let rows = four_rows (through 4 C) c.in_rows.result c.each_row-rows.result e.0.1 e.1.1 e.2.1 e.3.1 in
-    columns_fit C tt c.args.x c.requires _ c.in_rows.ensures _ rows _ c.turned.ensures
+    columns_fit C tt c.args.x c.requires _ c.in_rows.ensures _ rows _ c.turned.ensures.held
 
 pub returns : goal.returns
 unfolding forward
@@ -22,4 +22,4 @@ returns c =
     let rows = four_rows (through 4 C) c.in_rows.result c.each_row-rows.result e.0.1 e.1.1 e.2.1 e.3.1 in
     let f = c.each_row.ensures in
     let columns = four_rows (through 4 C) c.turned.result c.each_row.result f.0.1 f.1.1 f.2.1 f.3.1 in
-    c.in_raster.ensures ∙ both_ways C tt c.args.x c.requires _ c.in_rows.ensures _ rows _ c.turned.ensures _ _ columns c.turned-2.ensures
+    c.in_raster.ensures ∙ both_ways C tt c.args.x c.requires _ c.in_rows.ensures _ rows _ c.turned.ensures.held _ _ columns c.turned-2.ensures.held

@@ -1,4 +1,4 @@
--- `printing::Text::push_line` meets its contract: a loop that adds a number and what stands behind it in each turn. Assumes nothing.
+-- `printing::Draft::push_line` meets its contract: a loop that adds a number and what stands behind it in each turn. Assumes nothing.
 use mathlib.Core.Path.{◌≡◌}
 use mathlib.Core.List.{List, [], ◌∷◌, ◌++◌}
 use Prim.Native.Nat.{ℕ, ◌+◌, ◌*◌, ◌≤◌}
@@ -6,7 +6,7 @@ use lib.IntN.{ℤ, pos}
 use lib.ListN.{length, get_or}
 use Rattle.lists.specs.Parts.{parts}
 use Rattle.printing.specs.Text.{signed_of, behind}
-use Rattle.printing.proofs.Text.push_line.Given as goal
+use Rattle.printing.proofs.Draft.push_line.Given as goal
 
 -- the k-th number and what stands behind it
 abbrev pub part : List ℤ → ℕ → List ℕ

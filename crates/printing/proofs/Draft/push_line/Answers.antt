@@ -12,8 +12,8 @@ use Rattle.lists.proofs.Parts.{parts_more}
 use Rattle.std.specs.Fmt.{signed_decimal}
 use Rattle.printing.specs.Text.{line_of}
 use Rattle.printing.proofs.Decimal.{signed_is}
-use Rattle.printing.proofs.Text.push_line.Invariants.{part}
-use Rattle.printing.proofs.Text.push_line.Goals as goal
+use Rattle.printing.proofs.Draft.push_line.Invariants.{part}
+use Rattle.printing.proofs.Draft.push_line.Goals as goal
 
 -- text n and then text b go behind k parts: one part more
 more : {a t u : List ℕ} (s n b : List ℕ) (f : ℕ → List ℕ) (k : ℕ) → a ≡ s ++ parts k f → t ≡ a ++ n → u ≡ t ++ b → n ++ b ≡ f k → u ≡ s ++ parts (k + 1) f
