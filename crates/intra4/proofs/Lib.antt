@@ -1,7 +1,6 @@
 pub mod Area
 pub mod Bytes
 pub mod Exact
-pub mod Folded
 pub mod Least
 pub mod Masked
 pub mod Missing
